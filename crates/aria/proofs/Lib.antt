@@ -1,0 +1,2 @@
+pub mod KeyRun
+pub mod Laws
