@@ -1,0 +1,114 @@
+//! ARIA-ECB of OpenSSL's libcrypto, the implementation of other origin. The library itself does not
+//! link it: only the tests and the bench do.
+
+use std::ffi::{c_char, c_int, c_uchar, c_void, CStr};
+use std::ptr;
+
+use aria_host::Direction;
+
+#[link(name = "crypto")]
+extern "C" {
+    fn OpenSSL_version(what: c_int) -> *const c_char;
+    fn EVP_aria_128_ecb() -> *const c_void;
+    fn EVP_aria_192_ecb() -> *const c_void;
+    fn EVP_aria_256_ecb() -> *const c_void;
+    fn EVP_CIPHER_CTX_new() -> *mut c_void;
+    fn EVP_CIPHER_CTX_free(context: *mut c_void);
+    fn EVP_CIPHER_CTX_set_padding(context: *mut c_void, padding: c_int) -> c_int;
+    fn EVP_CipherInit_ex(
+        context: *mut c_void,
+        cipher: *const c_void,
+        engine: *mut c_void,
+        key: *const c_uchar,
+        iv: *const c_uchar,
+        encrypt: c_int,
+    ) -> c_int;
+    fn EVP_CipherUpdate(
+        context: *mut c_void,
+        out: *mut c_uchar,
+        out_len: *mut c_int,
+        input: *const c_uchar,
+        input_len: c_int,
+    ) -> c_int;
+}
+
+/// The library's name and version, as it gives them.
+pub fn version() -> String {
+    // SAFETY: number 0 asks for the version, a constant string of the library.
+    let text = unsafe { CStr::from_ptr(OpenSSL_version(0)) };
+    text.to_string_lossy().into_owned()
+}
+
+/// ARIA-ECB in one direction, for keys of one length.
+pub struct Ecb {
+    context: *mut c_void,
+    key_len: usize,
+}
+
+impl Ecb {
+    pub fn new(key_len: usize, direction: Direction) -> Ecb {
+        let encrypt = match direction {
+            Direction::Forward => 1,
+            Direction::Back => 0,
+        };
+        // SAFETY: the calls take no memory but the context, and null stands for what is not given.
+        unsafe {
+            let cipher = match key_len {
+                16 => EVP_aria_128_ecb(),
+                24 => EVP_aria_192_ecb(),
+                32 => EVP_aria_256_ecb(),
+                _ => panic!("ARIA has no key of {key_len} bytes"),
+            };
+            let context = EVP_CIPHER_CTX_new();
+            assert!(!context.is_null(), "EVP_CIPHER_CTX_new");
+            let started = EVP_CipherInit_ex(
+                context,
+                cipher,
+                ptr::null_mut(),
+                ptr::null(),
+                ptr::null(),
+                encrypt,
+            );
+            assert_eq!(started, 1, "EVP_CipherInit_ex: no ARIA in this libcrypto");
+            assert_eq!(EVP_CIPHER_CTX_set_padding(context, 0), 1);
+            Ecb { context, key_len }
+        }
+    }
+
+    /// Prepares the key and processes the run in place, as one of our calls does.
+    pub fn run(&mut self, key: &[u8], run: &mut [u8]) {
+        assert_eq!(key.len(), self.key_len);
+        assert_eq!(run.len() % 16, 0);
+        let len = c_int::try_from(run.len()).expect("a run below 2 GiB");
+        let mut out_len = 0;
+        // SAFETY: the key has the cipher's length; without padding an update of whole blocks writes
+        // as many bytes as it reads, and input and output may be the same.
+        unsafe {
+            let keyed = EVP_CipherInit_ex(
+                self.context,
+                ptr::null(),
+                ptr::null_mut(),
+                key.as_ptr(),
+                ptr::null(),
+                -1,
+            );
+            assert_eq!(keyed, 1, "EVP_CipherInit_ex");
+            let done = EVP_CipherUpdate(
+                self.context,
+                run.as_mut_ptr(),
+                &mut out_len,
+                run.as_ptr(),
+                len,
+            );
+            assert_eq!(done, 1, "EVP_CipherUpdate");
+        }
+        assert_eq!(out_len, len);
+    }
+}
+
+impl Drop for Ecb {
+    fn drop(&mut self) {
+        // SAFETY: the context came from EVP_CIPHER_CTX_new and is freed once.
+        unsafe { EVP_CIPHER_CTX_free(self.context) }
+    }
+}
