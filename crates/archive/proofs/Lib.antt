@@ -1,0 +1,4 @@
+pub mod Stages
+pub mod Sealing
+pub mod Opening
+pub mod Theorems

@@ -1,0 +1,6 @@
+pub mod Header
+pub mod Check
+pub mod Find
+pub mod Open
+pub mod Readable
+pub mod Theorems
