@@ -1,0 +1,64 @@
+-- The listing fits its buffer: a header of 8 bytes, 64 lines of 21; and a text put at the front of zeros is held with zeros behind it.
+-- Assumes nothing.
+use mathlib.Core.Path.{_≡_, sym, ap, _∙_, subst}
+use mathlib.Core.List.{List, _++_}
+use Prim.Native.Nat.{ℕ, zero, suc, _+_, _-_, _*_, _≤_, _<_}
+use native.Mathlib.Nat.{zero-add, sub-zero, zero-sub, suc-sub-suc}
+use native.Mathlib.Omega.{arith}
+use lib.ListN.{length, drop, replicate, length-take, length-replicate}
+use lib.Seq.{length-take-le}
+use Rattle.directory.specs.Entries.{entries, entryAt, numberOf, startOf, sizeOf}
+use Rattle.listing.specs.Text.{numberLine, jobLine, jobLines}
+use Rattle.listing.specs.Put.{laid, Put}
+use Rattle.listing.specs.Listing.{Holds, Printable}
+use Rattle.listing.specs.declared.Listing.{Listing}
+use Rattle.listing.proofs.DecimalLaws.{limit, length-decimal}
+use Rattle.listing.proofs.Lines.{length-field, length-number-line, length-job-line, lines-more}
+
+pub number-line-short : (word : List ℕ) (k n : ℕ) → n < limit k → length (numberLine word n) ≤ length word + k + 2
+number-line-short word k n h = omega (arith, length-number-line word n, length-decimal k n h)
+
+job-line-short : (e : List ℕ) → startOf e < 100000 → sizeOf e < 100000 → length (jobLine e) ≤ 21
+job-line-short e hs hl =
+    let digits : length (numberOf e) ≤ 8 = simp length-take (omega arith) in
+    omega (
+      arith,
+      length-job-line e,
+      length-field (startOf e),
+      length-field (sizeOf e),
+      length-decimal 4 (startOf e) hs,
+      length-decimal 4 (sizeOf e) hl,
+    )
+
+pub lines-short : (contents : List ℕ) → Printable contents → (n : ℕ) → n ≤ entries contents → length (jobLines contents n) ≤ 21 * n
+unfolding jobLines
+lines-short contents p zero h = omega arith
+lines-short contents p (suc n) h =
+    omega (
+      arith,
+      lines-more contents n,
+      lines-short contents p n (omega arith),
+      job-line-short (entryAt contents n) (p .starts n h) (p .sizes n h),
+    )
+
+drop-zeros : (a n : ℕ) → drop {A = ℕ} a (replicate n 0) ≡ replicate (n - a) 0
+drop-zeros zero n = ap (λ (k : ℕ). replicate k 0) (sym (sub-zero n))
+drop-zeros (suc a) zero = ap (λ (k : ℕ). replicate k 0) (sym (zero-sub (suc a)))
+drop-zeros (suc a) (suc n) = drop-zeros a n ∙ ap (λ (k : ℕ). replicate k 0) (sym (suc-sub-suc n a))
+
+pub put-held : (s : List ℕ) (r : Listing) → length s ≤ 1352 → Put (replicate 1352 0) 0 s (r .length) (r .text) → Holds s r
+unfolding laid
+put-held s r h p =
+    let place : 0 + length s ≡ length s = zero-add (length s) in
+    let all : length (r .text) ≡ 1352 = p .same ∙ length-replicate {A = ℕ} 1352 0 in
+    let within : r .length ≤ length (r .text) = omega (arith, p .end) in
+    record {
+      size = p .end ∙ place;
+      text = p .text ∙ ap (λ (l : List ℕ). s ++ l) (ap (λ (n : ℕ). drop n (replicate 1352 0)) place ∙ drop-zeros (length s) 1352);
+      within = within;
+      front = sym (length-take-le (r .length) (r .text) within);
+    }
+
+-- the same text, said in another way
+pub held-as : {s t : List ℕ} {r : Listing} → s ≡ t → Holds s r → Holds t r
+held-as {s} {t} {r} e p = subst (λ (l : List ℕ). Holds l r) e p

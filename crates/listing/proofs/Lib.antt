@@ -1,0 +1,6 @@
+pub mod DecimalLaws
+pub mod Laying
+pub mod Lines
+pub mod Fits
+pub mod Accepted
+pub mod Examples

@@ -1,0 +1,58 @@
+-- `open::write_job` is safe and ends: the plain bytes that it writes lie within its buffer.
+-- Assumes nothing.
+use mathlib.Core.Path.{sym, ap}
+use lib.Seq.{length-take-le}
+use Rattle.archive.specs.Open.{openedAs}
+use Rattle.open.proofs.Fits.{opens-fits}
+use borrow.Author.Needs.{needs}
+use Rattle.open.proofs.write_job.Statement.{statement}
+use Rattle.open.proofs.write_job.Tie as tie
+
+slice-aggregate-open : tie.Need-slice-aggregate-open
+slice-aggregate-open c = search needs
+
+open-requires : tie.Need-open-requires
+open-requires c κs = search needs
+
+enum-known-opened : tie.Need-enum-known-opened
+enum-known-opened c = search needs
+
+print-refusal-requires : tie.Need-print-refusal-requires
+print-refusal-requires c κs = search needs
+
+enum-known-opened-2 : tie.Need-enum-known-opened-2
+enum-known-opened-2 c = search needs
+
+array-share-prefix-plain : tie.Need-array-share-prefix-plain
+array-share-prefix-plain c =
+    let o = c .before .before .before .before .«open» in
+    opens-fits _ _ _ _ _ _ _ (ap openedAs (c .before .opened2 .given .1)) (o .ensures) (o .kept .1 .1 .1 .0)
+
+slice-aggregate-write-all : tie.Need-slice-aggregate-write-all
+slice-aggregate-write-all c =
+    let o = c .before .before .before .before .before .«open» in
+    sym (length-take-le _ _ (opens-fits _ _ _ _ _ _ _ (ap openedAs (c .before .before .opened2 .given .1)) (o .ensures) (o .kept .1 .1 .1 .0)))
+
+write-all-requires : tie.Need-write-all-requires
+write-all-requires c κs = search needs
+
+returns : tie.Need-returns
+returns c = search needs
+
+returns-2 : tie.Need-returns-2
+returns-2 c = search needs
+
+pub write-job-spec : {M : Type 1} → statement M
+write-job-spec =
+    tie.close
+    (tie.spec
+    slice-aggregate-open
+    open-requires
+    enum-known-opened
+    print-refusal-requires
+    enum-known-opened-2
+    array-share-prefix-plain
+    slice-aggregate-write-all
+    write-all-requires
+    returns
+    returns-2)
