@@ -1,0 +1,39 @@
+-- The archive that docs/FORMAT.md works byte by byte, examples/sample/archive.bin, by the definitions that the contracts cite: what `jobs`
+-- prints of it, which is 01's printed example, and what its first job opens to.
+-- Assumes nothing.
+use mathlib.Core.Bool.{Bool}
+use mathlib.Core.List.{List, [], _∷_}
+use Prim.Native.Nat.{ℕ}
+use Rattle.schedule.specs.KeySchedule.{scheduleOf}
+use Rattle.format.specs.Bytes.{sameBytes}
+use Rattle.archive.specs.Open.{underKeystream, bodyOf}
+use Rattle.listing.specs.Listing.{listingText}
+use Rattle.known_answers.specs.Readings.{job24000017}
+use Rattle.known_answers.specs.Vectors.{rfcKey}
+
+-- header, two entries, one body; the key is the 16-byte key of RFC 5794, A.1
+unfoldable pub sampleFile : List ℕ
+sampleFile =
+    0x01 ∷ 0x10 ∷ 0x00 ∷ 0x02 ∷ 0x00 ∷ 0x00 ∷ 0x00 ∷ 0x07
+    ∷ 0x68 ∷ 0x5c ∷ 0x67 ∷ 0x8e ∷ 0x54 ∷ 0x5d ∷ 0x7b ∷ 0x37
+    ∷ 0x00 ∷ 0x00 ∷ 0x00 ∷ 0x39
+    ∷ 0x32 ∷ 0x34 ∷ 0x30 ∷ 0x30 ∷ 0x30 ∷ 0x30 ∷ 0x31 ∷ 0x37 ∷ 0x00 ∷ 0x00 ∷ 0x00 ∷ 0x34 ∷ 0x00 ∷ 0x00 ∷ 0x00 ∷ 0x05
+    ∷ 0x32 ∷ 0x34 ∷ 0x30 ∷ 0x30 ∷ 0x30 ∷ 0x30 ∷ 0x31 ∷ 0x38 ∷ 0x00 ∷ 0x00 ∷ 0x00 ∷ 0x39 ∷ 0x00 ∷ 0x00 ∷ 0x00 ∷ 0x00
+    ∷ 0x71 ∷ 0xa8 ∷ 0x93 ∷ 0x2a ∷ 0xa6 ∷ []
+
+-- the three lines of 01, The program `jobs`
+unfoldable pub sampleText : List ℕ
+sampleText =
+    0x6a ∷ 0x6f ∷ 0x62 ∷ 0x73 ∷ 0x20 ∷ 0x32 ∷ 0x0a
+    ∷ 0x32 ∷ 0x34 ∷ 0x30 ∷ 0x30 ∷ 0x30 ∷ 0x30 ∷ 0x31 ∷ 0x37 ∷ 0x20 ∷ 0x35 ∷ 0x32 ∷ 0x20 ∷ 0x35 ∷ 0x0a
+    ∷ 0x32 ∷ 0x34 ∷ 0x30 ∷ 0x30 ∷ 0x30 ∷ 0x30 ∷ 0x31 ∷ 0x38 ∷ 0x20 ∷ 0x35 ∷ 0x37 ∷ 0x20 ∷ 0x30 ∷ 0x0a ∷ []
+
+-- `dried`
+unfoldable pub samplePlain : List ℕ
+samplePlain = 0x64 ∷ 0x72 ∷ 0x69 ∷ 0x65 ∷ 0x64 ∷ []
+
+unfoldable pub sampleReadings : List Bool
+sampleReadings =
+    sameBytes (listingText (rfcKey 16) sampleFile) sampleText
+    ∷ sameBytes (underKeystream (scheduleOf (rfcKey 16)) sampleFile job24000017 (bodyOf sampleFile job24000017)) samplePlain
+    ∷ []

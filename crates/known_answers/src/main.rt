@@ -1,0 +1,142 @@
+// Runs the readings of 01, Plate readings, that are not marked P: files on both sides of the limits of checking, under a good key, each
+// good but for what its line names. Prints what checking answered; tests/known_answers/make_expected.py makes the stored output from the
+// model of the archive. The readings marked P are the one theorem of proofs/Readings.
+use archive::Checked;
+use libc::STDOUT_FILENO;
+
+// The key of RFC 5794, A.1.
+const KEY: [u8; 16] = [0, 1, 2, 3, 4, 5, 6, 7, 8, 9, 10, 11, 12, 13, 14, 15];
+
+fn print(text: &[u8]) {
+    io::write_all(STDOUT_FILENO, text);
+}
+
+fn byte(n: usize) -> u8 {
+    (n % 256) as u8
+}
+
+// A file that begins with a header and has room for more than the longest archive. The key check is that of the key, by libcrypto.
+fn headed(layout: u8, jobs: u8, size: usize) -> [u8; 65537] {
+    let mut file = [0u8; 65537];
+    let front = [
+        layout,
+        16,
+        0,
+        jobs,
+        0,
+        0,
+        0,
+        7,
+        0x68,
+        0x5c,
+        0x67,
+        0x8e,
+        0x54,
+        0x5d,
+        0x7b,
+        0x37,
+    ];
+    blocks::store(front, &mut file[0..16]);
+    file[17] = byte(size / 65536);
+    file[18] = byte(size / 256);
+    file[19] = byte(size);
+    file
+}
+
+// The directory entry of job 240000ii, of no bytes.
+fn entry(i: u8, start: usize) -> [u8; 16] {
+    let tens = b'0' + i / 10;
+    let ones = b'0' + i % 10;
+    let high = byte(start / 256);
+    let low = byte(start);
+    [
+        b'2',
+        b'4',
+        b'0',
+        b'0',
+        b'0',
+        b'0',
+        tens,
+        ones,
+        0,
+        0,
+        high,
+        low,
+        0,
+        0,
+        0,
+        0,
+    ]
+}
+
+// The file with an entry put into its place in the directory.
+fn with_entry(before: [u8; 65537], i: u8, start: usize) -> [u8; 65537] {
+    let mut file = before;
+    let at = 20 + 16 * (i as usize);
+    blocks::store(entry(i, start), &mut file[at..]);
+    file
+}
+
+// A file that begins with an archive of so many jobs.
+fn archived(jobs: u8) -> [u8; 65537] {
+    let end = 20 + 16 * (jobs as usize);
+    let mut file = headed(1, jobs, end);
+    let mut i: u8 = 0;
+    while i < jobs {
+        let next = with_entry(file, i, end);
+        file = next;
+        i += 1;
+    }
+    file
+}
+
+// A line: the case, and what checking answers.
+fn print_check(case: &[u8], file: &[u8]) {
+    let key = KEY;
+    let checked = archive::check(&key, file);
+    print(case);
+    match checked {
+        Checked::Jobs(n) => {
+            print(b"jobs ");
+            io::print_decimal(STDOUT_FILENO, n as u64);
+        }
+        Checked::Refused(n) => {
+            print(b"refused ");
+            io::print_decimal(STDOUT_FILENO, n as u64);
+        }
+    }
+    print(b"\n");
+}
+
+fn short_file() {
+    let file = headed(1, 0, 19);
+    print_check(b"19 bytes: ", &file[0..19]);
+}
+
+fn layout_2() {
+    let file = headed(2, 0, 20);
+    print_check(b"20 bytes with layout 2: ", &file[0..20]);
+}
+
+fn long_file() {
+    let file = headed(1, 0, 65537);
+    print_check(b"65537 bytes: ", &file);
+}
+
+fn count_64() {
+    let file = archived(64);
+    print_check(b"count 64: ", &file[0..1044]);
+}
+
+fn count_65() {
+    let file = archived(65);
+    print_check(b"count 65: ", &file[0..1060]);
+}
+
+fn main() {
+    short_file();
+    layout_2();
+    long_file();
+    count_64();
+    count_65();
+}
