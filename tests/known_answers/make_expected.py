@@ -1,0 +1,48 @@
+"""Writes what the program `known_answers` is to print, from the model of the archive rules alone.
+
+    python3 tests/known_answers/make_expected.py > crates/known_answers/stdout
+
+One line a case, `CASE: jobs N` or `CASE: refused N`. The cases are document 01's plate readings that
+are not marked P: under a good key files of 19 bytes, of 20 bytes with layout 2, of 65,537 bytes, and
+archives of 64 and 65 jobs of no bytes.
+"""
+
+import os
+import sys
+
+sys.path.insert(0, os.path.join(os.path.dirname(os.path.abspath(__file__)), "..", "model"))
+
+import archive  # noqa: E402
+
+KEY = bytes(range(16))
+
+
+def header(layout, count, length):
+    front = bytes([layout, len(KEY)]) + count.to_bytes(2, "big") + (7).to_bytes(4, "big")
+    return front + archive.key_check(KEY) + length.to_bytes(4, "big")
+
+
+def empty_jobs(count):
+    end = archive.PLATE + archive.ENTRY * count
+    place = end.to_bytes(4, "big") + bytes(4)
+    return header(1, count, end) + b"".join(b"%08d" % (24000000 + i) + place for i in range(count))
+
+
+def cases():
+    yield "19 bytes", header(1, 0, 19)[:19]
+    yield "20 bytes with layout 2", header(2, 0, 20)
+    yield "65537 bytes", header(1, 0, 65537) + bytes(65537 - archive.PLATE)
+    yield "count 64", empty_jobs(64)
+    yield "count 65", empty_jobs(65)
+
+
+def answer(file):
+    try:
+        return "jobs %d" % archive.check(KEY, file)
+    except archive.Refused as refused:
+        return "refused %d" % refused.number
+
+
+if __name__ == "__main__":
+    for case, file in cases():
+        print("%s: %s" % (case, answer(file)))

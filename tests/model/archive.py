@@ -1,0 +1,123 @@
+"""The rules of the dryer archive, layout 1, read straight from document 01.
+
+A model for tests: plain Python over whole numbers and bytes, written apart from the proved code and
+sharing nothing with it. Refusals carry document 01's numbers.
+"""
+
+from collections import namedtuple
+
+import libcrypto
+
+PLATE = 20
+ENTRY = 16
+LONGEST_FILE = 65536
+MOST_JOBS = 64
+
+Entry = namedtuple("Entry", "digits start length")
+
+
+class Refused(Exception):
+    """The first case that applies; `number` is its number in document 01."""
+
+    def __init__(self, number):
+        super().__init__("refused %d" % number)
+        self.number = number
+
+
+def refuse_if(applies, number):
+    if applies:
+        raise Refused(number)
+
+
+def number_at(data, at, size):
+    return int.from_bytes(data[at : at + size], "big")
+
+
+def all_digits(data):
+    return all(0x30 <= byte <= 0x39 for byte in data)
+
+
+def entry_at(file, index):
+    at = PLATE + ENTRY * index
+    return Entry(file[at : at + 8], number_at(file, at + 8, 4), number_at(file, at + 12, 4))
+
+
+def key_check(key):
+    return libcrypto.forward(key, b"\xff" * 16)[:8]
+
+
+def check(key, file):
+    """The count of jobs. Refusals 1 and 5 to 17."""
+    refuse_if(len(key) not in (16, 24, 32), 1)
+    refuse_if(len(file) < PLATE, 5)
+    refuse_if(len(file) > LONGEST_FILE, 6)
+    refuse_if(file[0] != 1, 7)
+    refuse_if(file[1] != len(key), 8)
+    count = number_at(file, 2, 2)
+    refuse_if(count > MOST_JOBS, 9)
+    refuse_if(number_at(file, 16, 4) != len(file), 10)
+    end = PLATE + ENTRY * count
+    refuse_if(end > len(file), 11)
+    refuse_if(file[8:16] != key_check(key), 12)
+    for index in range(count):
+        entry = entry_at(file, index)
+        refuse_if(not all_digits(entry.digits), 13)
+        refuse_if(index > 0 and int(entry.digits) <= int(entry_at(file, index - 1).digits), 14)
+        refuse_if(entry.start != end, 15)
+        end = entry.start + entry.length
+        refuse_if(end > len(file), 16)
+    refuse_if(end != len(file), 17)
+    return count
+
+
+def find(key, file, number):
+    """The index of the job's entry. Refusals of `check`, then 18 and 19."""
+    count = check(key, file)
+    refuse_if(len(number) != 8 or not all_digits(number), 18)
+    for index in range(count):
+        if entry_at(file, index).digits == number:
+            return index
+    raise Refused(19)
+
+
+def counter_block(archive_number, digits, index):
+    return archive_number.to_bytes(4, "big") + digits + index.to_bytes(4, "big")
+
+
+def keystream(key, archive_number, digits, length):
+    blocks = (length + 15) // 16
+    counters = b"".join(counter_block(archive_number, digits, i) for i in range(blocks))
+    return libcrypto.forward(key, counters)[:length]
+
+
+def exclusive_or(a, b):
+    return bytes(x ^ y for x, y in zip(a, b))
+
+
+def open_job(key, file, number, room=LONGEST_FILE):
+    """The job's plain bytes. Refusals of `find`, then 20 where a buffer of `room` bytes is too short."""
+    entry = entry_at(file, find(key, file, number))
+    refuse_if(room < entry.length, 20)
+    body = file[entry.start : entry.start + entry.length]
+    return exclusive_or(body, keystream(key, number_at(file, 4, 4), entry.digits, entry.length))
+
+
+def jobs_text(key, file):
+    """What the program `jobs` prints."""
+    try:
+        count = check(key, file)
+    except Refused as refused:
+        return b"refused %d\n" % refused.number
+    lines = [b"jobs %d\n" % count]
+    for index in range(count):
+        entry = entry_at(file, index)
+        lines.append(b"%s %d %d\n" % entry)
+    return b"".join(lines)
+
+
+def open_output(key, file, number):
+    """What the program `open` writes: standard output, standard error."""
+    try:
+        return open_job(key, file, number), b""
+    except Refused as refused:
+        return b"", b"refused %d\n" % refused.number

@@ -1,0 +1,194 @@
+"""Holds the programs `jobs` and `open` to the model.
+
+    python3 tests/model/run.py --jobs target/bin/jobs [--open target/bin/open] [--seed N]
+
+Runs the model's self-test first. Each case is one run of a program in a folder of its own, with the
+archive as a file or through a pipe in turn; some go through a slow pipe in small pieces. Every byte
+written is compared. The last line is `archive model: N cases agree`, or says how many differ, and
+then the exit status is 1.
+
+Refusal 20 is not met here: no body is longer than 65,536 bytes, and `open` lends that much.
+"""
+
+import argparse
+import random
+import sys
+import unittest
+
+import archive
+import cases
+import selftest
+from program import UNREADABLE, Program, Written
+
+RANDOM_CASES = 600
+SHOWN = 10
+
+
+class Comparison:
+    """Counts cases that agree and shows the first few that do not."""
+
+    def __init__(self):
+        self.agreed = 0
+        self.differed = 0
+
+    def note(self, name, case, expected, written):
+        if written == expected:
+            self.agreed += 1
+            return
+        self.differed += 1
+        if self.differed <= SHOWN:
+            print("DIFFERS %s: %s" % (name, case.name))
+            print("  key      %s" % ("none" if case.key is None else case.key[:64].hex()))
+            print("  archive  %s (%d bytes)" % (case.file[:120].hex(), len(case.file)))
+            print("  expected %s" % (shown(expected),))
+            print("  written  %s" % (shown(written),))
+
+
+def shown(written):
+    return "stdout %r, stderr %r, status %s" % (
+        written.stdout[:200],
+        written.stderr[:200],
+        written.status,
+    )
+
+
+def expected_of_jobs(case):
+    return Written(archive.jobs_text(case.key or b"", case.file), b"", 0)
+
+
+def expected_of_open(case, number):
+    return Written(*archive.open_output(case.key or b"", case.file, number), 0)
+
+
+def in_turn(program, turn, case, arguments=()):
+    """From a file and through a pipe by turns, so that both are met by every kind of case."""
+    if turn % 2:
+        return program.from_pipe(case.key, case.file, max(1, len(case.file)), arguments, pause=0)
+    return program.from_file(case.key, case.file, arguments)
+
+
+SLOW = [
+    # case, bytes in a piece
+    (cases.sample().case("sample", 0), 1),
+    (cases.sample().case("sample", 0), 7),
+    (cases.three_jobs().case("three jobs", 0), 16),
+    (cases.Draft(cases.KEYS[32], 7, cases.numbered(range(64))).case("64 jobs", 0), 97),
+    (cases.Draft(cases.KEYS[24], 7, cases.numbered([65500])).case("65,536 bytes", 0), 1021),
+    (cases.Draft(cases.KEYS[16], 7, cases.numbered([65501])).case("65,537 bytes", 6), 1021),
+    (cases.Draft(cases.KEYS[16], 7, cases.numbered([65501])).case("65,537 bytes", 6), 65536),
+    (cases.Draft(cases.KEYS[16], 7, cases.numbered([200000])).case("200,036 bytes", 6), 8192),
+    (cases.Case("19 bytes", cases.KEYS[16], bytes(19), 5), 3),
+]
+
+
+# A key.bin that cannot be read, and a standard input that is closed, count as empty.
+NO_KEY = cases.Case("key.bin is a folder", None, cases.sample().file(), 1)
+NO_INPUT = cases.Case("closed standard input", cases.KEYS[16], b"", 5)
+
+
+def run_jobs(path, all_cases, comparison):
+    with Program(path) as program:
+        for turn, case in enumerate(all_cases):
+            written = in_turn(program, turn, case)
+            comparison.note("jobs", case, expected_of_jobs(case), written)
+        for case, piece in SLOW:
+            written = program.from_pipe(case.key, case.file, piece)
+            comparison.note("jobs, slow pipe", case, expected_of_jobs(case), written)
+        written = program.from_file(UNREADABLE, NO_KEY.file)
+        comparison.note("jobs", NO_KEY, expected_of_jobs(NO_KEY), written)
+        written = program.from_nothing(NO_INPUT.key)
+        comparison.note("jobs", NO_INPUT, expected_of_jobs(NO_INPUT), written)
+
+
+def numbers_to_ask(case, turn):
+    """Job numbers for `open`: the first, middle and last two of the contents.
+
+    An archive that is refused is refused whatever is asked: a number, or by turns what is none.
+    """
+    try:
+        count = archive.check(case.key or b"", case.file)
+    except archive.Refused:
+        return [b"24000017" if turn % 4 < 2 else b"2400001"]
+    indices = sorted({0, count // 2, count - 2, count - 1} & set(range(count)))
+    return [archive.entry_at(case.file, index).digits for index in indices]
+
+
+def questions():
+    """Numbers that are none (18) or absent (19), on a good archive and on one that is refused itself;
+    and every job of a full one."""
+    good = cases.three_jobs()
+    refused = cases.three_jobs()
+    refused.tail = b"\0"
+    numbers = [b"", b"2", b"2400001", b"240000170", b"24000017 ", b" 24000017", b"24000017\n"]
+    numbers += [b"+2400017", b"-2400017", b"0x240000", b"24.00017", b"abcdefgh", b"2" * 16, b"2" * 5000]
+    numbers += ["２４００００１７".encode(), b"\xff" * 8]
+    for at in range(8):
+        for byte in (0x2F, 0x3A, 0x01, 0xB0):
+            numbers.append(b"24000017"[:at] + bytes([byte]) + b"24000017"[at + 1 :])
+            numbers.append(b"24000017"[:at] + b"24000017"[at + 1 :])
+    absent = [b"24000016", b"24000020", b"00000000", b"99999999", b"14000017", b"24000117", b"25000017"]
+    for number in dict.fromkeys(numbers + absent):
+        yield good.case("three jobs", 0), number
+        yield refused.case("three jobs and a byte", 17), number
+    many = cases.Draft(cases.KEYS[24], 7, cases.numbered(range(64)))
+    for number, _, _ in many.entries:
+        yield many.case("64 jobs", 0), number
+    empty = cases.Draft(cases.KEYS[16], 7, [])
+    yield empty.case("no jobs", 0), b"24000017"
+    yield empty.case("no jobs", 0), b""
+
+
+def run_open(path, all_cases, comparison):
+    with Program(path) as program:
+        turn = 0
+        for case in all_cases:
+            for number in numbers_to_ask(case, turn):
+                written = in_turn(program, turn, case, (number,))
+                comparison.note("open %r" % number, case, expected_of_open(case, number), written)
+                turn += 1
+        for case, number in questions():
+            written = in_turn(program, turn, case, (number,))
+            comparison.note("open %r" % number[:40], case, expected_of_open(case, number), written)
+            turn += 1
+        for case in (cases.sample().case("sample", 0), cases.Case("empty", cases.KEYS[16], b"", 5)):
+            written = program.from_file(case.key, case.file)
+            comparison.note("open with no number", case, expected_of_open(case, b""), written)
+        for case, piece in SLOW:
+            number = numbers_to_ask(case, 0)[-1]
+            written = program.from_pipe(case.key, case.file, piece, (number,))
+            comparison.note("open, slow pipe", case, expected_of_open(case, number), written)
+        number = b"24000017"
+        written = program.from_file(UNREADABLE, NO_KEY.file, (number,))
+        comparison.note("open", NO_KEY, expected_of_open(NO_KEY, number), written)
+        written = program.from_nothing(NO_INPUT.key, (number,))
+        comparison.note("open", NO_INPUT, expected_of_open(NO_INPUT, number), written)
+
+
+def main():
+    parser = argparse.ArgumentParser(description="Holds the programs to the archive model.")
+    parser.add_argument("--jobs", required=True, help="the program jobs")
+    parser.add_argument("--open", help="the program open")
+    parser.add_argument("--seed", type=int, help="repeats the random cases of an earlier run")
+    options = parser.parse_args()
+
+    tests = unittest.defaultTestLoader.loadTestsFromModule(selftest)
+    if not unittest.TextTestRunner(stream=sys.stdout).run(tests).wasSuccessful():
+        sys.exit("archive model: the self-test failed")
+
+    seed = random.SystemRandom().randrange(2**32) if options.seed is None else options.seed
+    print("archive model: repeat with --seed %d" % seed, flush=True)
+    all_cases = [*cases.made(), *cases.changes(), *cases.random_changes(seed, RANDOM_CASES)]
+
+    comparison = Comparison()
+    run_jobs(options.jobs, all_cases, comparison)
+    if options.open:
+        run_open(options.open, all_cases, comparison)
+    if comparison.differed:
+        sys.stdout.flush()
+        total = comparison.agreed + comparison.differed
+        sys.exit("archive model: %d of %d cases differ" % (comparison.differed, total))
+    print("archive model: %d cases agree" % comparison.agreed)
+
+
+if __name__ == "__main__":
+    main()

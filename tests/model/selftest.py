@@ -1,0 +1,131 @@
+"""The model held to document 01's readings, to published vectors and to what each case was made for.
+
+    python3 tests/model/selftest.py
+"""
+
+import os
+import re
+import unittest
+
+import archive
+import cases
+import libcrypto
+import stored
+from records import records
+
+
+def refusal(call, *arguments):
+    try:
+        call(*arguments)
+    except archive.Refused as refused:
+        return refused.number
+    return 0
+
+
+def read(path):
+    with open(os.path.join(stored.TOP, path), "rb") as file:
+        return file.read()
+
+
+class Cipher(unittest.TestCase):
+    def test_published_vectors(self):
+        seen = 0
+        for record in records(os.path.join(stored.TOP, "tests/data/aria-ecb.txt")):
+            key, plain, sealed = (bytes.fromhex(record[name]) for name in ("key", "in", "out"))
+            self.assertEqual(libcrypto.forward(key, plain), sealed, record["origin"])
+            self.assertEqual(libcrypto.back(key, sealed), plain, record["origin"])
+            seen += 1
+        self.assertEqual(seen, 6)
+
+
+class Readings(unittest.TestCase):
+    """Document 01, plate readings and the program `jobs`."""
+
+    def test_counter_block(self):
+        block = archive.counter_block(7, b"24000017", 0)
+        self.assertEqual(block.hex(), "00000007323430303030313700000000")
+
+    def test_sizes(self):
+        key = cases.KEYS[16]
+        self.assertEqual(refusal(archive.check, key, bytes([2] * 19)), 5)
+        self.assertEqual(refusal(archive.check, key, bytes([2] * 20)), 7)
+        self.assertEqual(refusal(archive.check, key, bytes(65537)), 6)
+        for count, number in ((64, 0), (65, 9)):
+            file = cases.Draft(key, 7, cases.numbered([0] * count)).file()
+            self.assertEqual(refusal(archive.check, key, file), number)
+
+    def test_jobs_text(self):
+        sample = cases.sample()
+        text = b"jobs 2\n24000017 52 5\n24000018 57 0\n"
+        self.assertEqual(archive.jobs_text(sample.key, sample.file()), text)
+        self.assertEqual(archive.jobs_text(sample.key, b""), b"refused 5\n")
+
+
+class Cases(unittest.TestCase):
+    def test_each_case_has_the_answer_it_was_made_for(self):
+        met = set()
+        for case in cases.made():
+            number = refusal(archive.check, case.key or b"", case.file)
+            self.assertEqual(number, case.refusal, case.name)
+            met.add(number)
+        self.assertEqual(met, {0, 1} | set(range(5, 18)))
+
+    def test_names_are_distinct(self):
+        names = [case.name for case in cases.made()]
+        self.assertEqual(len(names), len(set(names)))
+
+
+class Opening(unittest.TestCase):
+    def test_plain_bytes_and_counter_mode(self):
+        for key in cases.KEYS.values():
+            jobs = cases.numbered([0, 1, 15, 16, 17, 100, 4096])
+            file = cases.Draft(key, 0xFFFFFFFF, jobs).file()
+            for index, (number, plain) in enumerate(jobs):
+                self.assertEqual(archive.find(key, file, number), index)
+                self.assertEqual(archive.open_job(key, file, number), plain)
+                entry = archive.entry_at(file, index)
+                body = file[entry.start : entry.start + entry.length]
+                first = archive.counter_block(0xFFFFFFFF, number, 0)
+                self.assertEqual(libcrypto.counter(key, first, body), plain)
+
+    def test_refusals_and_their_order(self):
+        sample = cases.sample()
+        key, file = sample.key, sample.file()
+        for number in (b"", b"2400001", b"240000170", b"2400001/", b":4000017"):
+            self.assertEqual(refusal(archive.open_job, key, file, number), 18)
+            self.assertEqual(refusal(archive.open_job, key, file[:-1], number), 10)
+        self.assertEqual(refusal(archive.open_job, key, file, b"24000016"), 19)
+        self.assertEqual(refusal(archive.open_job, key, file, b"24000016", 0), 19)
+        self.assertEqual(refusal(archive.open_job, key, file, b"24000017", 4), 20)
+        self.assertEqual(refusal(archive.open_job, key, file, b"24000017", 5), 0)
+        self.assertEqual(refusal(archive.open_job, key, file, b"24000018", 0), 0)
+
+
+class Stored(unittest.TestCase):
+    def test_stored_files(self):
+        for path, data in stored.stored().items():
+            self.assertEqual(read(path), data, path)
+
+    def test_no_other_stored_case(self):
+        kept = set(os.path.dirname(path) for path in stored.stored())
+        folder = os.path.join(stored.TOP, "tests/jobs")
+        found = {e.name for e in os.scandir(folder) if e.is_dir() and e.name != "__pycache__"}
+        self.assertEqual({"tests/jobs/" + name for name in found} | {"examples/sample"}, kept)
+
+    def test_worked_example_of_the_format(self):
+        """The bytes worked through in docs/FORMAT.md are the sample's, in order."""
+        row = re.compile(r"^\| (\d+)(?: to (\d+))? \| `([0-9a-f ]+)` \|", re.M)
+        rows = row.findall(read("docs/FORMAT.md").decode())
+        file = read("examples/sample/archive.bin")
+        at = 0
+        for first, last, digits in rows:
+            data = bytes.fromhex(digits)
+            self.assertEqual(int(first), at)
+            self.assertEqual(int(last or first) - at + 1, len(data))
+            self.assertEqual(file[at : at + len(data)], data)
+            at += len(data)
+        self.assertEqual(at, len(file))
+
+
+if __name__ == "__main__":
+    unittest.main()

@@ -1,0 +1,51 @@
+"""The stored cases of tests/jobs and the sample archive: writes them anew.
+
+    python3 tests/model/stored.py
+
+The self-test holds the stored files to what this makes.
+"""
+
+import os
+
+import archive
+import cases
+
+TOP = os.path.join(os.path.dirname(os.path.abspath(__file__)), "..", "..")
+
+
+def _case(name, key, file):
+    files = {"stdin": file, "stdout": archive.jobs_text(key or b"", file)}
+    if key is not None:
+        files["key.bin"] = key
+    return {"tests/jobs/%s/%s" % (name, part): data for part, data in files.items()}
+
+
+def stored():
+    """Each stored file's bytes, by its path from the repository's top."""
+    sample = cases.sample()
+    too_long = cases.Draft(sample.key, 7, cases.numbered([65501]))
+    files = {
+        "examples/sample/key.bin": sample.key,
+        "examples/sample/archive.bin": sample.file(),
+    }
+    files.update(_case("sample", sample.key, sample.file()))
+    files.update(_case("empty-archive", sample.key, b""))
+    files.update(_case("missing-key", None, sample.file()))
+    files.update(_case("no-jobs", sample.key, cases.Draft(sample.key, 7, []).file()))
+    many = cases.Draft(cases.KEYS[32], 7, cases.numbered(range(64)))
+    files.update(_case("64-jobs", many.key, many.file()))
+    files.update(_case("65537-bytes", too_long.key, too_long.file()))
+    return files
+
+
+def main():
+    for path, data in stored().items():
+        place = os.path.join(TOP, path)
+        os.makedirs(os.path.dirname(place), exist_ok=True)
+        with open(place, "wb") as file:
+            file.write(data)
+        print("%s: %d bytes" % (path, len(data)))
+
+
+if __name__ == "__main__":
+    main()
