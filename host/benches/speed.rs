@@ -72,6 +72,11 @@ fn main() {
     // Filled before the clock runs, so that no page is touched first inside a measurement.
     let mut buffer: Vec<u8> = (0..1 << 20).map(|i: u32| (i % 251) as u8).collect();
 
+    // A second of work first, so that the processor is at its full speed when the first figure is taken.
+    while thread_seconds() < 1.0 {
+        ours(Path::Plain, Direction::Forward)(&mut buffer);
+    }
+
     println!("{}; {}", processor(), libcrypto::version());
     println!("ARIA-ECB, 16-byte key, MB/s of thread CPU time, best of {ROUNDS} rounds");
     println!("size    direction    plain   tables  libcrypto  plain/lib  tables/lib");
