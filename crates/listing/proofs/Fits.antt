@@ -3,10 +3,11 @@
 use mathlib.Core.Path.{_≡_, sym, ap, _∙_, subst}
 use mathlib.Core.List.{List, _++_}
 use Prim.Native.Nat.{ℕ, zero, suc, _+_, _-_, _*_, _≤_, _<_}
-use native.Mathlib.Nat.{zero-add, sub-zero, zero-sub, suc-sub-suc}
+use native.Mathlib.Nat.{zero-add}
 use native.Mathlib.Omega.{arith}
 use lib.ListN.{length, drop, replicate, length-take, length-replicate}
 use lib.Seq.{length-take-le}
+use Rattle.blocks.proofs.Parts.{drop-replicate}
 use Rattle.directory.specs.Entries.{entries, entryAt, numberOf, startOf, sizeOf}
 use Rattle.listing.specs.Text.{numberLine, jobLine, jobLines}
 use Rattle.listing.specs.Put.{laid, Put}
@@ -41,11 +42,6 @@ lines-short contents p (suc n) h =
       job-line-short (entryAt contents n) (p .starts n h) (p .sizes n h),
     )
 
-drop-zeros : (a n : ℕ) → drop {A = ℕ} a (replicate n 0) ≡ replicate (n - a) 0
-drop-zeros zero n = ap (λ (k : ℕ). replicate k 0) (sym (sub-zero n))
-drop-zeros (suc a) zero = ap (λ (k : ℕ). replicate k 0) (sym (zero-sub (suc a)))
-drop-zeros (suc a) (suc n) = drop-zeros a n ∙ ap (λ (k : ℕ). replicate k 0) (sym (suc-sub-suc n a))
-
 pub put-held : (s : List ℕ) (r : Listing) → length s ≤ 1352 → Put (replicate 1352 0) 0 s (r .length) (r .text) → Holds s r
 unfolding laid
 put-held s r h p =
@@ -54,7 +50,7 @@ put-held s r h p =
     let within : r .length ≤ length (r .text) = omega (arith, p .end) in
     record {
       size = p .end ∙ place;
-      text = p .text ∙ ap (λ (l : List ℕ). s ++ l) (ap (λ (n : ℕ). drop n (replicate 1352 0)) place ∙ drop-zeros (length s) 1352);
+      text = p .text ∙ ap (λ (l : List ℕ). s ++ l) (ap (λ (n : ℕ). drop n (replicate 1352 0)) place ∙ drop-replicate (length s) 1352);
       within = within;
       front = sym (length-take-le (r .length) (r .text) within);
     }
