@@ -72,7 +72,7 @@ fn main() {
     // Filled before the clock runs, so that no page is touched first inside a measurement.
     let mut buffer: Vec<u8> = (0..1 << 20).map(|i: u32| (i % 251) as u8).collect();
 
-    // A second of work first, so that the processor is at its full speed when the first figure is taken.
+    // A second of work first: without it the first row came out lower for the plain path. Why was not looked into.
     while thread_seconds() < 1.0 {
         ours(Path::Plain, Direction::Forward)(&mut buffer);
     }
