@@ -1,0 +1,4 @@
+pub mod Booleans
+pub mod Cases
+pub mod Answers
+pub mod Shared
