@@ -1,0 +1,9 @@
+pub mod Equality
+pub mod Below
+pub mod Tables
+pub mod Test
+pub mod Fill
+pub mod Numbers
+pub mod Parts
+pub mod Laying
+pub mod Laws
