@@ -1,0 +1,47 @@
+-- Laws of reading a block from a part.
+-- Assumes nothing.
+use mathlib.Core.Path.{_≡_, sym, ap, ap₂, _∙_}
+use mathlib.Core.List.{List, _++_, append-nil}
+use Prim.Native.Nat.{ℕ, _-_, _≤_, min}
+use native.Mathlib.Omega.{arith}
+use lib.ListN.{length, take, replicate, length-append, length-take, length-replicate}
+use lib.Seq.{take-all, take-at}
+use Rattle.octets.specs.Parts.{overwritten}
+use Rattle.octets.proofs.Parts.{overwritten-whole, drop-replicate}
+use Rattle.blocks.specs.Blocks.{blockOf}
+
+pub length-block : (xs : List ℕ) → length (blockOf xs) ≡ 16
+unfolding blockOf
+length-block xs = simp (length-append, length-take, length-replicate) (omega arith)
+
+-- the block at the front of what starts with a block
+pub block-front : (b rest : List ℕ) → length b ≡ 16 → blockOf (b ++ rest) ≡ b
+unfolding blockOf
+block-front b rest e =
+    let full : 16 - length (b ++ rest) ≡ 0 = simp length-append (omega arith) in
+    ap₂ (λ (l : List ℕ) (n : ℕ). l ++ replicate n 0) (take-at b rest 16 e) full ∙ append-nil b
+
+-- sixteen bytes are the block that they are
+pub block-whole : (xs : List ℕ) → length xs ≡ 16 → blockOf xs ≡ xs
+block-whole xs e = ap blockOf (sym (append-nil xs)) ∙ block-front xs _ e
+
+-- bytes laid over zeros are the block that they begin
+pub block-laid : (xs : List ℕ) → overwritten xs (replicate 16 0) ≡ blockOf xs
+unfolding overwritten blockOf
+block-laid xs =
+    ap₂ (λ (n : ℕ) (l : List ℕ). take n xs ++ l) (length-replicate {A = ℕ} 16 0) (drop-replicate (length xs) 16)
+
+-- a part of sixteen bytes that is loaded, put through f and stored comes back as its image
+pub through : (f : List ℕ → List ℕ) (xs b c ys : List ℕ) → length xs ≡ 16 → length c ≡ 16 → b ≡ blockOf xs → c ≡ f b
+    → ys ≡ overwritten c xs → ys ≡ f xs
+through f xs b c ys lx lc eb ec ey =
+    ey ∙ overwritten-whole c xs (lc ∙ sym lx) ∙ ec ∙ ap f (eb ∙ block-whole xs lx)
+
+-- sixteen bytes are enough for a block
+pub block-part : (xs : List ℕ) → blockOf (take 16 xs) ≡ blockOf xs
+unfolding blockOf
+block-part xs =
+    let l : length (take 16 xs) ≡ min 16 (length xs) = length-take 16 xs in
+    let all : length (take 16 xs) ≤ 16 = omega arith in
+    let same : 16 - length (take 16 xs) ≡ 16 - length xs = omega arith in
+    ap₂ (λ (u : List ℕ) (n : ℕ). u ++ replicate n 0) (take-all 16 (take 16 xs) all) same
