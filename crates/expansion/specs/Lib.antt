@@ -1,0 +1,4 @@
+pub mod Outcomes
+pub mod KeySchedule
+pub mod Decryption
+pub mod Internal
