@@ -1,14 +1,14 @@
 // The plain engine: ARIA's rounds byte by byte, over the four boxes.
-use schedule::Schedule;
+use circuit::Schedule;
 ghost use mathlib.Core.Path.{_≡_};
 ghost use mathlib.Core.Bool.{true};
 ghost use Prim.Native.Nat.{_%_};
 ghost use lib.ListN.{length};
+ghost use Rattle.refusals.specs.Shared.{goodRounds};
 ghost use Rattle.blocks.specs.Runs.{eachBlock};
 ghost use Rattle.boxes.specs.Boxes.{boxBy};
-ghost use Rattle.rounds.specs.Circuit.{circuit};
-ghost use Rattle.schedule.specs.Outcomes.{goodRounds};
-ghost use Rattle.schedule.specs.Run.{Ran};
+ghost use Rattle.circuit.specs.Circuit.{circuit};
+ghost use Rattle.circuit.specs.Run.{Ran};
 
 // A block through n rounds, two at a time.
 fn encrypt(t: &[[u8; 256]; 4], keys: &[u8; 272], n: usize, block: [u8; 16]) -> [u8; 16]
@@ -18,16 +18,16 @@ fn encrypt(t: &[[u8; 256]; 4], keys: &[u8; 272], n: usize, block: [u8; 16]) -> [
     let mut x = block;
     let mut i: usize = 0;
     while i + 2 < n {
-        let y = rounds::odd_round(t, rounds::round_key(keys, i), x);
-        let z = rounds::even_round(t, rounds::round_key(keys, i + 1), y);
+        let y = rounds::odd_round(t, circuit::round_key(keys, i), x);
+        let z = rounds::even_round(t, circuit::round_key(keys, i + 1), y);
         x = z;
         i += 2;
     }
-    let y = rounds::odd_round(t, rounds::round_key(keys, i), x);
+    let y = rounds::odd_round(t, circuit::round_key(keys, i), x);
     rounds::last_round(
         t,
-        rounds::round_key(keys, i + 1),
-        rounds::round_key(keys, i + 2),
+        circuit::round_key(keys, i + 1),
+        circuit::round_key(keys, i + 2),
         y,
     )
 }
@@ -60,11 +60,9 @@ pub fn run(schedule: Schedule, run: &mut [u8]) -> u32
     ensures { λ r. ⌜ Ran schedule (now (run .entry)) r (now (run .exit)) ⌝ }
 {
     let n = schedule.rounds;
-    if !schedule::good_rounds(n) {
-        return 3;
-    }
-    if run.len() % 16 != 0 {
-        return 4;
+    let refused = circuit::refusal(n, run.len());
+    if refused != 0 {
+        return refused;
     }
     let keys = schedule.keys;
     let t = sbox::tables();

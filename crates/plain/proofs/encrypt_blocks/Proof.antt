@@ -1,12 +1,11 @@
 -- `plain::encrypt_blocks` meets its contract: the blocks before `at` are done, those from there on as they were.
 -- Assumes nothing.
-use mathlib.Core.Path.{_≡_, _∙_}
-use Prim.Native.Nat.{ℕ, _+_, _-_}
+use Prim.Native.Nat.{_-_}
 use native.Mathlib.Omega.{arith}
-use lib.ListN.{length, take, drop, length-take, length-drop}
-use Rattle.blocks.proofs.Running.{Running, running-start, running-turn, running-done}
+use lib.ListN.{length}
+use Rattle.blocks.proofs.Running.{Running, running-start, running-part, running-turn, running-done}
 use Rattle.boxes.specs.Boxes.{boxBy}
-use Rattle.rounds.specs.Circuit.{circuit}
+use Rattle.circuit.specs.Circuit.{circuit}
 use Rattle.plain.proofs.encrypt_blocks.Statement.{statement}
 use Rattle.plain.proofs.encrypt_blocks.Tie as tie
 
@@ -32,19 +31,21 @@ part-encrypt-part-end : tie.Need-part-encrypt-part-end Inv-loop μ-loop
 part-encrypt-part-end c = omega arith
 
 encrypt-part-requires : tie.Need-encrypt-part-requires Inv-loop μ-loop
-encrypt-part-requires c κs = (c .before .before .before .before .pre .0, simp (length-take, length-drop) (omega arith))
+encrypt-part-requires c κs =
+    let l = c .before .before in
+    let start = l .before .before in
+    (start .pre .0, running-part _ _ _ _ (l .loop .inv) (c .before .loop-test .taken) (start .pre .1))
 
 loop-less : tie.Need-loop-less Inv-loop μ-loop
 loop-less c = omega arith
 
 loop-again : tie.Need-loop-again Inv-loop μ-loop
 loop-again c =
-    let l = c .before .before .before .before .before in
+    let turn = c .before .before .before .before in
+    let l = turn .before in
     let done = c .before .before .encrypt-part in
-    let at : ℕ = l .loop .at in
-    let len : length (take (at + 16 - at) (drop at (l .loop .run))) ≡ 16 = simp (length-take, length-drop) (omega arith) in
-    running-turn _ _ _ (done .last .1 .1 .1 .0) at (at + 16 - at) (omega arith) (l .loop .inv) (c .before .before .before .before .loop-test .taken)
-    (l .before .before .pre .1) (done .kept .1 .1 .1 .0 ∙ len) (done .ensures)
+    running-turn _ _ _ (done .last .1 .1 .1 .0) _ (l .loop .inv) (turn .loop-test .taken) (l .before .before .pre .1)
+    (done .kept .1 .1 .1 .0) (done .ensures)
 
 same-length : tie.Need-same-length Inv-loop μ-loop
 same-length c = c .before .loop .inv .same

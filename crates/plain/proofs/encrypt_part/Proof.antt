@@ -1,13 +1,11 @@
 -- `plain::encrypt_part` meets its contract: sixteen bytes are the block that is loaded, and the block stored takes their place.
 -- Assumes nothing.
-use mathlib.Core.Path.{_≡_, ap, _∙_}
-use mathlib.Core.List.{List}
-use Prim.Native.Nat.{ℕ}
+use mathlib.Core.Path.{_≡_}
 use borrow.Author.Needs.{needs}
 use lib.ListN.{length}
-use Rattle.blocks.proofs.Parts.{block-whole, overwritten-whole}
+use Rattle.blocks.proofs.Blocks.{through}
 use Rattle.boxes.specs.Boxes.{boxBy}
-use Rattle.rounds.specs.Circuit.{circuit}
+use Rattle.circuit.specs.Circuit.{circuit}
 use Rattle.plain.proofs.encrypt_part.Statement.{statement}
 use Rattle.plain.proofs.encrypt_part.Tie as tie
 
@@ -27,14 +25,10 @@ returns : tie.Need-returns
 returns c =
     let e = c .before .before .before .before in
     let start = e .before .before .before .before in
+    let sixteen : length (e .encrypt .result) ≡ 16 = search needs in
     let a = start .args in
-    let h = start .pre .1 in
-    let b : List ℕ = e .encrypt .result in
-    let lb : length b ≡ 16 = search needs in
-    c .before .before .store .ensures
-    ∙ overwritten-whole b (a .part .now) lb h
-    ∙ e .encrypt .ensures
-    ∙ ap (circuit (boxBy (a .t .now)) (a .n) (a .keys .now)) (e .before .load .ensures ∙ block-whole (a .part .now) h)
+    through (circuit (boxBy (a .t .now)) (a .n) (a .keys .now)) (a .part .now) _ _ _ (start .pre .1) sixteen
+    (e .before .load .ensures) (e .encrypt .ensures) (c .before .before .store .ensures)
 
 pub encrypt-part-spec : {M : Type 1} → statement M
 encrypt-part-spec =
