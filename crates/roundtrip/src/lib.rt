@@ -1,10 +1,10 @@
 // Demand 3 in code: a run under a schedule, its decryption schedule, and a run under that, on one run, by any two of the engines.
-use schedule::Schedule;
-ghost use Rattle.schedule.specs.Run.{Ran};
+use circuit::Schedule;
+ghost use Rattle.circuit.specs.Run.{Ran};
 ghost use Rattle.roundtrip.specs.RoundTrip.{RoundTripped};
 
-// The engines, 01's paths.
-pub enum Path {
+// The engines; 01 calls them paths.
+pub enum Engine {
     Plain,
     Tables,
 }
@@ -17,23 +17,30 @@ pub struct Numbers {
 }
 
 // A run under a schedule by either engine: both have the contract `Ran`.
-pub fn run_by(path: Path, schedule: Schedule, run: &mut [u8]) -> u32
+pub fn run_by(engine: Engine, schedule: Schedule, run: &mut [u8]) -> u32
     ensures { λ r. ⌜ Ran schedule (now (run .entry)) r (now (run .exit)) ⌝ }
 {
-    match path {
-        Path::Plain => plain::run(schedule, run),
-        Path::Tables => tables::run(schedule, run),
+    match engine {
+        Engine::Plain => plain::run(schedule, run),
+        Engine::Tables => tables::run(schedule, run),
     }
 }
 
-// The three calls, one after the other on one run.
-pub fn round_trip(first: Path, second: Path, schedule: Schedule, run: &mut [u8]) -> Numbers
-    ensures { λ r. ⌜ RoundTripped schedule (now (run .entry)) r (now (run .exit)) ⌝ }
+// The three calls, one after the other on one run. The bytes that the first call leaves are shown in a second buffer, as far as it reaches.
+pub fn round_trip(
+    first: Engine,
+    second: Engine,
+    schedule: Schedule,
+    run: &mut [u8],
+    middle: &mut [u8],
+) -> Numbers
+    ensures { λ r. ⌜ RoundTripped schedule (now (run .entry)) (now (middle .entry)) r (now (run .exit)) (now (middle .exit)) ⌝ }
 {
     let there = run_by(first, schedule, run);
-    let p = schedule::decryption_schedule(schedule);
+    octets::copy(run, middle);
+    let p = expansion::decryption_schedule(schedule);
     let outcome = p.outcome;
-    let reversed = schedule::number_of(outcome);
+    let reversed = expansion::number_of(outcome);
     let s = p.schedule;
     let back = run_by(second, s, run);
     Numbers {
