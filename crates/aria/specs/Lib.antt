@@ -1,2 +1,0 @@
-pub mod KeyRun
-pub mod Laws

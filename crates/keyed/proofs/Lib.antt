@@ -1,0 +1,2 @@
+pub mod UnderKey
+pub mod Laws
