@@ -1,2 +1,4 @@
+pub mod Streams
+pub mod Keystream
+pub mod Applied
 pub mod Laws
-pub mod Sealed

@@ -1,2 +1,3 @@
 pub mod Counter
-pub mod Chunks
+pub mod Laws
+pub mod Internal

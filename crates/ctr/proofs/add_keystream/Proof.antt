@@ -1,34 +1,37 @@
--- `ctr::add_keystream` meets its contract: before each turn the bytes in front of `at` have the keystream added; `at` is a block's start
--- unless it is the end.
+-- `ctr::add_keystream` meets its contract: before each turn the bytes in front of `at` have the keystream added, and the next byte's place
+-- in it is byte `offset` of block `block`.
 -- Assumes nothing.
-use mathlib.Core.Path.{_≡_, refl, ap, _∙_}
+use mathlib.Core.Path.{_≡_, refl, ap, subst, _∙_}
 use mathlib.Core.List.{List}
-use Prim.Native.Nat.{ℕ, _≤_, _<_, _+_, _-_, _*_, _/_, _%_}
+use Prim.Native.Nat.{ℕ, _≤_, _<_, _+_, _-_, _*_}
 use native.Mathlib.Omega.{arith}
-use lib.ListN.{length, take, drop, length-take, length-drop}
-use Rattle.blocks.proofs.Fill.{filled, fill-done}
-use Rattle.ctr.specs.Counter.{addStream, keystream}
-use Rattle.ctr.proofs.Laws.{length-stream, stream-turn}
 use borrow.Author.Needs.{needs}
+use lib.ListN.{length, take, drop, length-take, length-drop}
+use Rattle.octets.proofs.Fill.{filled, fill-done}
+use Rattle.ctr.specs.Counter.{addStream, keystream}
+use Rattle.ctr.proofs.Streams.{length-stream, stream-turn}
 use Rattle.ctr.proofs.add_keystream.Statement.{statement}
 use Rattle.ctr.proofs.add_keystream.Tie as tie
 
 abbrev Inv-loop : tie.InvT-loop
-Inv-loop schedule prefix run₀ at₀ run at =
-    (at ≤ length run₀) × (length run ≡ length run₀) × (at < length run₀ → at % 16 ≡ 0)
-    × (run ≡ filled (addStream (keystream schedule prefix) 0 run₀) run₀ at)
+Inv-loop schedule prefix first run₀ block₀ offset₀ at₀ run block offset at =
+    (at ≤ length run₀) × (length run ≡ length run₀) × (offset < 16) × (16 * block + offset ≡ first + at)
+    × (run ≡ filled (addStream (keystream schedule prefix) first run₀) run₀ at)
 
 abbrev μ-loop : tie.MeasureT-loop
-μ-loop schedule prefix run₀ at₀ run at = length run₀ - at
+μ-loop schedule prefix first run₀ block₀ offset₀ at₀ run block offset at = length run₀ - at
 
 loop-holds : tie.Need-loop-holds Inv-loop μ-loop
-loop-holds c = (search needs, refl, λ h. refl, refl)
+loop-holds c = (search needs, refl, search needs, search needs, refl)
 
-sub-chunk-length : tie.Need-sub-chunk-length Inv-loop μ-loop
-sub-chunk-length c = search needs
+sub-lesser : tie.Need-sub-lesser Inv-loop μ-loop
+sub-lesser c = search needs
 
-chunk-length-requires : tie.Need-chunk-length-requires Inv-loop μ-loop
-chunk-length-requires c κs = search needs
+sub-lesser-2 : tie.Need-sub-lesser-2 Inv-loop μ-loop
+sub-lesser-2 c = search needs
+
+lesser-requires : tie.Need-lesser-requires Inv-loop μ-loop
+lesser-requires c κs = search needs
 
 add-end : tie.Need-add-end Inv-loop μ-loop
 add-end c = search needs
@@ -45,8 +48,19 @@ part-add-chunk-end c = search needs
 add-chunk-requires : tie.Need-add-chunk-requires Inv-loop μ-loop
 add-chunk-requires c κs =
     let l = c .before .before .before .loop in
-    let n = c .before .chunk-length .ensures in
+    let n = c .before .lesser .ensures in
+    let offset = l .inv .2 in
+    let place = l .inv .3 in
     (c .before .before .before .before .before .pre, omega arith, simp (length-take, length-drop) (omega arith))
+
+add-block : tie.Need-add-block Inv-loop μ-loop
+add-block c = search needs
+
+add-block-2 : tie.Need-add-block-2 Inv-loop μ-loop
+add-block-2 c = search needs
+
+add-offset : tie.Need-add-offset Inv-loop μ-loop
+add-offset c = search needs
 
 loop-less : tie.Need-loop-less Inv-loop μ-loop
 loop-less c = search needs
@@ -55,22 +69,23 @@ loop-again : tie.Need-loop-again Inv-loop μ-loop
 loop-again c =
     let l = c .before .before .before .before .before .before .loop in
     let a = c .before .before .before .before .before .before .before .before .args in
-    let n = c .before .before .before .before .chunk-length in
+    let n = c .before .before .before .before .lesser in
     let done = c .before .before .add-chunk in
     let at : ℕ = l .at in
     let m : ℕ = at + n .result - at in
+    let size = n .ensures in
     let same = l .inv .1 in
-    let start : at % 16 ≡ 0 = l .inv .2 (omega arith) in
-    let block : 16 * (at / 16) ≡ at = omega arith in
+    let place = l .inv .3 in
     let end : at + m ≡ at + n .result = omega arith in
     let k : ℕ → ℕ = keystream (a .schedule) (a .prefix) in
-    let part : List ℕ = take m (drop at (l .run)) in (
+    let xs : List ℕ = a .run .now in
+    let ys : List ℕ = done .last .1 .1 .1 .1 .0 in
+    let added = subst (λ (i : ℕ). ys ≡ addStream k i (take m (drop at (l .run)))) place (done .ensures) in (
       omega arith,
       c .before .run .given .1 ∙ same,
-      λ h. omega arith,
-      stream-turn k (a .run .now) (l .run) (done .last .1 .1 .1 .0) at m (omega arith) (l .inv .3)
-          (done .ensures ∙ ap (λ (i : ℕ). addStream k i part) block)
-          ∙ ap (filled (addStream k 0 (a .run .now)) (a .run .now)) end,
+      omega arith,
+      omega arith,
+      stream-turn k (a .first) xs (l .run) ys at m (omega arith) (l .inv .4) added ∙ ap (filled (addStream k (a .first) xs) xs) end,
     )
 
 same-length : tie.Need-same-length Inv-loop μ-loop
@@ -79,9 +94,10 @@ same-length c = search needs
 returns : tie.Need-returns Inv-loop μ-loop
 returns c =
     let l = c .before .loop in
-    let xs : List ℕ = c .before .before .before .args .run .now in
+    let a = c .before .before .before .args in
+    let xs : List ℕ = a .run .now in
     let same = l .inv .1 in
-    fill-done (addStream _ 0 xs) xs _ (l .at) (length xs) (l .inv .3) (length-stream _ 0 xs) refl (omega arith)
+    fill-done (addStream _ (a .first) xs) xs _ (l .at) (length xs) (l .inv .4) (length-stream _ (a .first) xs) refl (omega arith)
 
 pub add-keystream-spec : {M : Type 1} → statement M
 add-keystream-spec =
@@ -90,13 +106,17 @@ add-keystream-spec =
     Inv-loop
     μ-loop
     loop-holds
-    sub-chunk-length
-    chunk-length-requires
+    sub-lesser
+    sub-lesser-2
+    lesser-requires
     add-end
     sub-add-chunk
     part-add-chunk-start
     part-add-chunk-end
     add-chunk-requires
+    add-block
+    add-block-2
+    add-offset
     loop-less
     loop-again
     same-length

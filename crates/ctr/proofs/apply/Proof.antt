@@ -2,35 +2,37 @@
 -- Assumes nothing.
 use mathlib.Core.Path.{sym, _∙_}
 use borrow.Author.Needs.{needs}
-use borrow.Author.Tests.{not-true, not-false}
-use Rattle.schedule.proofs.RunLaws.{rounds-good, rounds-bad}
-use Rattle.ctr.proofs.Laws.{ctr-done, ctr-refused}
+use Rattle.refusals.proofs.Shared.{rounds-good, rounds-bad}
+use Rattle.ctr.proofs.Applied.{ctr-done, ctr-refused}
 use Rattle.ctr.proofs.apply.Statement.{statement}
 use Rattle.ctr.proofs.apply.Tie as tie
 
-good-rounds-requires : tie.Need-good-rounds-requires
-good-rounds-requires c κs = search needs
+rounds-requires : tie.Need-rounds-requires
+rounds-requires c κs = search needs
 
 returns : tie.Need-returns
 returns c =
     let a = c .before .before .before .args in
-    let bad = sym (c .before .good-rounds .ensures) ∙ not-true _ (c .if1 .taken) in
-    record { number = sym (rounds-bad (a .schedule .rounds) bad); bytes = sym (ctr-refused (a .schedule) (a .prefix) (a .run .now) bad) }
+    let e = c .before .«rounds» .ensures in
+    let bad = rounds-bad _ (λ q. c .if1 .taken (e ∙ q)) in
+    record { number = e; bytes = sym (ctr-refused (a .schedule) (a .prefix) (a .run .now) bad) }
 
 add-keystream-requires : tie.Need-add-keystream-requires
-add-keystream-requires c κs = sym (c .before .before .good-rounds .ensures) ∙ not-false _ (c .before .if1 .left)
+add-keystream-requires c κs = rounds-good _ (sym (c .before .before .«rounds» .ensures) ∙ c .before .if1 .left)
 
 same-length : tie.Need-same-length
 same-length c = search needs
 
 returns-2 : tie.Need-returns-2
 returns-2 c =
-    let a = c .before .before .before .before .before .before .before .args in
-    let good = sym (c .before .before .before .before .before .good-rounds .ensures) ∙ not-false _ (c .before .before .before .before .if1 .left) in
+    let d = c .before .before .before .before in
+    let a = d .before .before .before .args in
+    let e = d .before .«rounds» .ensures in
+    let good = rounds-good _ (sym e ∙ d .if1 .left) in
     record {
-      number = sym (rounds-good (a .schedule .rounds) good);
+      number = sym (d .if1 .left) ∙ e;
       bytes = c .before .before .add-keystream .ensures ∙ sym (ctr-done (a .schedule) (a .prefix) (a .run .now) good);
     }
 
 pub apply-spec : {M : Type 1} → statement M
-apply-spec = tie.close (tie.spec good-rounds-requires returns add-keystream-requires same-length returns-2)
+apply-spec = tie.close (tie.spec rounds-requires returns add-keystream-requires same-length returns-2)

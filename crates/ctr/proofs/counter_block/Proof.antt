@@ -1,88 +1,56 @@
--- `ctr::counter_block` meets its contract: twelve bytes are the list of their entries.
+-- `ctr::counter_block` meets its contract: the index is put behind the prefix.
 -- Assumes nothing.
-use mathlib.Core.Path.{_≡_, ap}
-use mathlib.Core.List.{List, _++_}
+use mathlib.Core.Path.{_≡_, ap₂, _∙_}
+use mathlib.Core.List.{List}
 use Prim.Native.Nat.{ℕ}
-use lib.ListN.{length}
-use Rattle.ctr.specs.Counter.{bytes32, counterBlock}
-use Rattle.ctr.proofs.Sealed.{listed}
+use native.Mathlib.Omega.{arith}
 use borrow.Author.Needs.{needs}
+use lib.ListN.{length}
+use Rattle.octets.specs.Parts.{laid}
+use Rattle.octets.proofs.Laying.{puts-put}
+use Rattle.ctr.proofs.Keystream.{counter-laid}
 use Rattle.ctr.proofs.counter_block.Statement.{statement}
 use Rattle.ctr.proofs.counter_block.Tie as tie
 
-array-read-t6 : tie.Need-array-read-t6
-array-read-t6 c = search needs
+slice-aggregate-load : tie.Need-slice-aggregate-load
+slice-aggregate-load c = search needs
 
-array-read-t9 : tie.Need-array-read-t9
-array-read-t9 c = search needs
+load-requires : tie.Need-load-requires
+load-requires c κs = search needs
 
-array-read-t12 : tie.Need-array-read-t12
-array-read-t12 c = search needs
+slice-aggregate-put : tie.Need-slice-aggregate-put
+slice-aggregate-put c = search needs
 
-array-read-t15 : tie.Need-array-read-t15
-array-read-t15 c = search needs
+in-four-requires : tie.Need-in-four-requires
+in-four-requires c κs = search needs
 
-array-read-t18 : tie.Need-array-read-t18
-array-read-t18 c = search needs
+slice-aggregate-put-2 : tie.Need-slice-aggregate-put-2
+slice-aggregate-put-2 c = search needs
 
-array-read-t21 : tie.Need-array-read-t21
-array-read-t21 c = search needs
-
-array-read-t24 : tie.Need-array-read-t24
-array-read-t24 c = search needs
-
-array-read-t27 : tie.Need-array-read-t27
-array-read-t27 c = search needs
-
-array-read-t30 : tie.Need-array-read-t30
-array-read-t30 c = search needs
-
-array-read-t33 : tie.Need-array-read-t33
-array-read-t33 c = search needs
-
-array-read-t36 : tie.Need-array-read-t36
-array-read-t36 c = search needs
-
-array-read-t39 : tie.Need-array-read-t39
-array-read-t39 c = search needs
-
-cast-t42 : tie.Need-cast-t42
-cast-t42 c = search needs
-
-cast-t45 : tie.Need-cast-t45
-cast-t45 c = search needs
-
-cast-t48 : tie.Need-cast-t48
-cast-t48 c = search needs
-
-cast-t50 : tie.Need-cast-t50
-cast-t50 c = search needs
+put-requires : tie.Need-put-requires
+put-requires c κs = search needs
 
 returns : tie.Need-returns
-unfolding counterBlock
 returns c =
-    let prefix : List ℕ = c .args .t1 in
+    let a = c .before .before .before .before .before .before .before .args in
+    let prefix : List ℕ = a .t1 in
     let twelve : length prefix ≡ 12 = search needs in
-    ap (λ (l : List ℕ). l ++ bytes32 (c .args .index)) (listed prefix 12 twelve)
+    let begun = c .before .before .before .before .before .load in
+    let index = c .before .before .before .in-four in
+    let room : length (begun .result) ≡ 16 = search needs in
+    let four : length (index .result) ≡ 4 = search needs in
+    puts-put (omega arith) (c .before .put .ensures) .text
+    ∙ ap₂ (λ (l s : List ℕ). laid l 12 s) (begun .ensures) (index .ensures)
+    ∙ counter-laid prefix twelve (a .index)
 
 pub counter-block-spec : {M : Type 1} → statement M
 counter-block-spec =
     tie.close
     (tie.spec
-    array-read-t6
-    array-read-t9
-    array-read-t12
-    array-read-t15
-    array-read-t18
-    array-read-t21
-    array-read-t24
-    array-read-t27
-    array-read-t30
-    array-read-t33
-    array-read-t36
-    array-read-t39
-    cast-t42
-    cast-t45
-    cast-t48
-    cast-t50
+    slice-aggregate-load
+    load-requires
+    slice-aggregate-put
+    in-four-requires
+    slice-aggregate-put-2
+    put-requires
     returns)

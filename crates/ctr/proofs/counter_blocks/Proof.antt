@@ -1,28 +1,31 @@
 -- `ctr::counter_blocks` meets its contract: after i turns the first i blocks are the counter blocks; a turn writes one more.
 -- Assumes nothing.
-use mathlib.Core.Path.{_≡_, sym, ap, _∙_}
-use mathlib.Core.List.{List}
-use Prim.Native.Nat.{ℕ, _≤_, _+_, _-_, _*_}
+use mathlib.Core.Path.{_≡_, refl, sym, ap, _∙_}
+use mathlib.Core.List.{List, _++_, append-nil}
+use Prim.Native.Nat.{ℕ, _≤_, _+_, _-_, _*_, _/_}
 use native.Mathlib.Omega.{arith}
-use lib.ListN.{length, take, drop, length-take, length-drop}
-use lib.Seq.{take-all}
-use Rattle.blocks.proofs.Parts.{overwritten-whole}
-use Rattle.ctr.proofs.Sealed.{counters-turn}
-use Rattle.ctr.specs.Chunks.{counterBlocks}
 use borrow.Author.Needs.{needs}
-use borrow.Rule.Slice.PartMut.{same-len-mid}
+use lib.ListN.{length, take, drop, length-take, length-drop, drop-of-length-le}
+use lib.Seq.{drop-drop}
+use Rattle.octets.proofs.Parts.{overwritten-whole}
+use Rattle.blocks.specs.Blocks.{row}
+use Rattle.blocks.proofs.Rows.{row-turn}
+use Rattle.ctr.specs.Counter.{counterBlock}
+use Rattle.ctr.specs.Internal.{counterBlocks}
+use Rattle.ctr.proofs.Keystream.{length-counter}
 use Rattle.ctr.proofs.counter_blocks.Statement.{statement}
 use Rattle.ctr.proofs.counter_blocks.Tie as tie
 
 abbrev Inv-loop : tie.InvT-loop
-Inv-loop prefix first out₀ i₀ out i = (i ≤ 32) × (length out ≡ 512) × (take (16 * i) out ≡ counterBlocks prefix first i)
+Inv-loop prefix block run₀ n i₀ run i =
+    (i ≤ n) × (length run ≡ length run₀) × (run ≡ counterBlocks prefix block i ++ drop (16 * i) run₀)
 
 abbrev μ-loop : tie.MeasureT-loop
-μ-loop prefix first out₀ i₀ out i = 32 - i
+μ-loop prefix block run₀ n i₀ run i = n - i
 
 loop-holds : tie.Need-loop-holds Inv-loop μ-loop
-unfolding counterBlocks
-loop-holds c = search needs
+unfolding row
+loop-holds c = (search needs, refl, refl)
 
 mul-at : tie.Need-mul-at Inv-loop μ-loop
 mul-at c = search needs
@@ -39,11 +42,11 @@ add-store c = search needs
 sub-store : tie.Need-sub-store Inv-loop μ-loop
 sub-store c = search needs
 
-part-out-start : tie.Need-part-out-start Inv-loop μ-loop
-part-out-start c = search needs
+part-store-start : tie.Need-part-store-start Inv-loop μ-loop
+part-store-start c = search needs
 
-part-out-end : tie.Need-part-out-end Inv-loop μ-loop
-part-out-end c = search needs
+part-store-end : tie.Need-part-store-end Inv-loop μ-loop
+part-store-end c = search needs
 
 store-requires : tie.Need-store-requires Inv-loop μ-loop
 store-requires c κs = search needs
@@ -56,30 +59,51 @@ loop-less c = search needs
 
 loop-again : tie.Need-loop-again Inv-loop μ-loop
 loop-again c =
-    let l = c .before .before .before .before .before .loop in
-    let prefix : List ℕ = c .before .before .before .before .before .before .args .prefix in
+    let l = c .before .before .before .before .before .before .loop in
+    let a = c .before .before .before .before .before .before .before .before .args in
+    let pre = c .before .before .before .before .before .before .before .before .pre in
+    let more = c .before .before .before .before .before .loop-test .taken in
+    let prefix : List ℕ = a .prefix in
     let twelve : length prefix ≡ 12 = search needs in
+    let rule : ℕ → List ℕ = λ (i : ℕ). counterBlock prefix (a .block + i) in
     let i : ℕ = l .i in
-    let out : List ℕ = l .out in
-    let ys : List ℕ = c .before .store .last .1 .0 in
-    let size = l .inv .1 in
+    let run : List ℕ = l .run in
+    let ys : List ℕ = c .before .before .store .last .1 .0 in
+    let same = l .inv .1 in
     let k : ℕ = 16 * i + 16 - 16 * i in
-    let part : length (take k (drop (16 * i) out)) ≡ 16 = simp (length-take, length-drop) (omega arith) in
-    let block = c .before .before .before .counter-block in
-    let eb : length (block .result) ≡ 16 = search needs in
-    let e = c .before .store .ensures ∙ overwritten-whole (block .result) (take k (drop (16 * i) out)) eb part ∙ block .ensures in (
+    let size : length (take k (drop (16 * i) run)) ≡ 16 = simp (length-take, length-drop) (omega arith) in
+    let made = c .before .before .before .before .counter-block in
+    let sixteen : length (made .result) ≡ 16 = search needs in
+    let e : ys ≡ rule i =
+    c .before .before .store .ensures
+    ∙ overwritten-whole (made .result) (take k (drop (16 * i) run)) (sixteen ∙ sym size)
+    ∙ made .ensures
+    in
+    let left : List ℕ = drop (16 * i) (a .run .now) in
+    let next : 16 * i + 16 ≡ 16 * (i + 1) = omega arith in
+    let rest : drop 16 left ≡ drop (16 * (i + 1)) (a .run .now) =
+    drop-drop 16 (16 * i) (a .run .now) ∙ ap (λ (n : ℕ). drop n (a .run .now)) next
+    in (
       omega arith,
-      same-len-mid (16 * i) k out ys (c .out2 .given) ∙ size,
-      counters-turn prefix twelve _ i k out ys (omega arith) (omega arith) (l .inv .2) e,
+      c .before .run .given .1 ∙ same,
+      row-turn rule i k run ys left (omega arith) (λ j h. length-counter prefix twelve (a .block + j)) (l .inv .2) e
+          ∙ ap (λ (z : List ℕ). row rule (i + 1) ++ z) rest,
     )
+
+same-length : tie.Need-same-length Inv-loop μ-loop
+same-length c = search needs
 
 returns : tie.Need-returns Inv-loop μ-loop
 returns c =
     let l = c .before .loop in
-    let size = l .inv .1 in
-    let end : 32 ≡ l .i = omega arith in
-    let all : length (l .out) ≤ 16 * l .i = omega arith in
-    sym (take-all (16 * l .i) (l .out) all) ∙ l .inv .2 ∙ ap (counterBlocks _ _) (sym end)
+    let a = c .before .before .before .args in
+    let pre = c .before .before .before .pre in
+    let end : l .i ≡ length (a .run .now) / 16 = omega arith in
+    let all : length (a .run .now) ≤ 16 * l .i = omega arith in
+    l .inv .2
+    ∙ ap (λ (z : List ℕ). counterBlocks (a .prefix) (a .block) (l .i) ++ z) (drop-of-length-le (a .run .now) all)
+    ∙ append-nil (counterBlocks (a .prefix) (a .block) (l .i))
+    ∙ ap (counterBlocks (a .prefix) (a .block)) end
 
 pub counter-blocks-spec : {M : Type 1} → statement M
 counter-blocks-spec =
@@ -93,10 +117,11 @@ counter-blocks-spec =
     counter-block-requires
     add-store
     sub-store
-    part-out-start
-    part-out-end
+    part-store-start
+    part-store-end
     store-requires
     add-i
     loop-less
     loop-again
+    same-length
     returns)
