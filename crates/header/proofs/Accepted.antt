@@ -1,0 +1,48 @@
+-- What a header without a case is known to have.
+-- Assumes nothing.
+use mathlib.Core.Path.{_≡_}
+use mathlib.Core.List.{List}
+use Prim.Native.Nat.{ℕ, _*_, _≤_}
+use native.Mathlib.Omega.{arith}
+use borrow.Author.Tests.{ltb-false, eqb-true, not-false}
+use lib.ListN.{length, length-take, length-drop}
+use Rattle.refusals.specs.Cases.{firstOf}
+use Rattle.refusals.proofs.Cases.{clear}
+use Rattle.octets.proofs.Equality.{same-eq}
+use Rattle.header.specs.Fields.{layoutOf, keyLengthOf, countOf, archiveNumber, keyCheckOf, lengthOf, directoryEnd, directoryOf}
+use Rattle.header.specs.Cases.{frontCases, fieldCases, headerCases}
+use Rattle.header.proofs.Cases.{header-positive}
+
+pub record HeaderGood (keysize : ℕ) (check file : List ℕ) : Type 0 where
+  pub long : 20 ≤ length file
+  pub short : length file ≤ 65536
+  pub layout : layoutOf file ≡ 1
+  pub keyed : keyLengthOf file ≡ keysize
+  pub few : countOf file ≤ 64
+  pub stated : lengthOf file ≡ length file
+  pub room : directoryEnd file ≤ length file
+  pub checked : keyCheckOf file ≡ check
+
+pub header-good : (keysize : ℕ) (check file : List ℕ) → firstOf (headerCases keysize check file) ≡ 0 → HeaderGood keysize check file
+unfolding headerCases frontCases fieldCases
+header-good keysize check file e =
+    let c = clear (headerCases keysize check file) (header-positive keysize check file) e in
+    record {
+      long = ltb-false _ _ (c 0);
+      short = ltb-false _ _ (c 1);
+      layout = eqb-true _ _ (not-false _ (c 2));
+      keyed = eqb-true _ _ (not-false _ (c 3));
+      few = ltb-false _ _ (c 4);
+      stated = eqb-true _ _ (not-false _ (c 5));
+      room = ltb-false _ _ (c 6);
+      checked = same-eq _ _ (not-false _ (c 7));
+    }
+
+-- where there is room for them, the archive number has four bytes and the directory 16 a job
+pub number-length : (file : List ℕ) → 20 ≤ length file → length (archiveNumber file) ≡ 4
+unfolding archiveNumber
+number-length file h = simp (length-take, length-drop) (omega arith)
+
+pub directory-length : (file : List ℕ) → directoryEnd file ≤ length file → length (directoryOf file) ≡ 16 * countOf file
+unfolding directoryOf
+directory-length file h = simp (length-take, length-drop) (omega arith)
