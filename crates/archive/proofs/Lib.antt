@@ -1,4 +1,6 @@
-pub mod Stages
-pub mod Sealing
+pub mod Checking
+pub mod Accepted
+pub mod Finding
+pub mod Plaintext
 pub mod Opening
 pub mod Theorems

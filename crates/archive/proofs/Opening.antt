@@ -1,66 +1,57 @@
--- Laws of opening: what each way out of the code has to show, stage by stage.
+-- Laws of opening: what each way out of the code has to show, stage by stage, and that the bytes opened lie within the buffer.
 -- Assumes nothing.
 use mathlib.Core.Path.{_≡_, refl, sym, ap, _∙_}
 use mathlib.Core.List.{List, _++_, append-assoc}
 use Prim.Native.Nat.{ℕ, _<_, _≤_}
 use native.Mathlib.Omega.{arith}
-use borrow.Author.Tests.{lt-ltb, le-ltb, eqb-true, not-false}
-use lib.Dec.{eqb}
-use lib.ListN.{length, drop}
-use Rattle.format.specs.Cases.{firstOf, Answer, refused, gives, answer}
-use Rattle.format.proofs.Equality.{both-true}
-use Rattle.format.proofs.Laws.{clear, first-stop, first-pass, answer-gives, answer-number, answer-none}
-use Rattle.schedule.specs.KeySchedule.{scheduleOf}
-use Rattle.schedule.specs.declared.Schedule.{Schedule}
+use borrow.Author.Tests.{lt-ltb, le-ltb}
+use lib.ListN.{length, drop, length-append}
+use Rattle.refusals.specs.Cases.{firstOf}
+use Rattle.refusals.specs.Answers.{Answer, refused, gives, answer, writtenFor}
+use Rattle.refusals.proofs.Cases.{one-applies, one-passes, first-stop, first-pass}
+use Rattle.refusals.proofs.Answers.{answer-gives, answer-number, answer-none, refusal-is}
+use Rattle.circuit.specs.declared.Schedule.{Schedule}
+use Rattle.expansion.specs.KeySchedule.{scheduleOf}
 use Rattle.ctr.specs.Counter.{keystream, addStream}
-use Rattle.directory.specs.Entries.{digits, isJobNumber}
+use Rattle.ctr.proofs.Streams.{length-stream}
+use Rattle.header.specs.Fields.{archiveNumber, directoryOf}
 use Rattle.directory.specs.Search.{indexOf}
-use Rattle.archive.specs.Header.{contentsOf}
 use Rattle.archive.specs.Check.{checkCases}
 use Rattle.archive.specs.Find.{numberCases, findCases, bodyAt}
-use Rattle.archive.specs.Open.{prefixOf, underKeystream, bodyOf, roomCases, openCases, writtenFor, Opens}
-use Rattle.archive.specs.Readable.{OpensJob}
-use Rattle.archive.proofs.Stages.{number-numbered, check-numbered, refusal-is}
+use Rattle.archive.specs.Open.{prefixOf, underKeystream, bodyOf, plainOf, roomCases, openCases, Opens}
+use Rattle.archive.specs.Internal.{OpensJob, lookupOf}
+use Rattle.archive.proofs.Checking.{check-positive}
+use Rattle.archive.proofs.Finding.{number-positive}
+
+-- ---- opening a job of an accepted file
 
 module _ (file number : List ℕ) where
-  -- a number that passes has eight bytes
-  pub number-eight : (i : ℕ) → gives i ≡ answer (firstOf (numberCases file number)) (indexOf (contentsOf file) number) → length number ≡ 8
-  unfolding numberCases isJobNumber
-  number-eight i e =
-      let p = answer-gives _ _ i (sym e) in
-      let t = not-false _ (clear 19 (numberCases file number) (number-numbered file number) (p .0) 0) in
-      eqb-true (length number) 8 (both-true (eqb (length number) 8) (digits number) t .0)
-
   room-short : (room : ℕ) → room < length (bodyOf file number) → firstOf (roomCases file number room) ≡ 20
-  unfolding roomCases firstOf
-  room-short room l = rw (lt-ltb _ _ l)
+  unfolding roomCases
+  room-short room l = one-applies _ 20 (lt-ltb _ _ l)
 
   room-enough : (room : ℕ) → length (bodyOf file number) ≤ room → firstOf (roomCases file number room) ≡ 0
-  unfolding roomCases firstOf
-  room-enough room l = rw (le-ltb _ _ l)
+  unfolding roomCases
+  room-enough room l = one-passes _ 20 (le-ltb _ _ l)
 
   module _ (s : Schedule) (before : List ℕ) where
     -- the job is not found
-    pub job-refused : (n : ℕ) → refused n ≡ answer (firstOf (numberCases file number)) (indexOf (contentsOf file) number)
-        → OpensJob s file number before (refused n) before
+    pub job-refused : (n : ℕ) → refused n ≡ lookupOf file number → OpensJob s file number before (refused n) before
     unfolding writtenFor
     job-refused n e =
         let p = answer-number _ _ n (sym e) in
         let stop = first-stop (numberCases file number) (roomCases file number (length before)) (p .1) in
-        record {
-          answered = refusal-is n _ _ (sym (stop ∙ p .0)) (λ q. p .1 (p .0 ∙ q));
-          bytes = refl;
-        }
+        record { answered = refusal-is n _ _ (sym (stop ∙ p .0)) (λ q. p .1 (p .0 ∙ q)); bytes = refl }
 
     -- the job is found at i, and b is its body
-    module _ (b : List ℕ) (i : ℕ) (e : gives i ≡ answer (firstOf (numberCases file number)) (indexOf (contentsOf file) number)) (h : b ≡ bodyAt file i) where
+    module _ (b : List ℕ) (i : ℕ) (e : gives i ≡ lookupOf file number) (h : b ≡ bodyAt file i) where
       found-body : b ≡ bodyOf file number
       found-body =
-          let p = answer-gives (firstOf (numberCases file number)) (indexOf (contentsOf file) number) i (sym e) in
+          let p = answer-gives (firstOf (numberCases file number)) (indexOf (directoryOf file) number) i (sym e) in
           h ∙ ap (bodyAt file) (sym (p .1))
 
       asked : firstOf (numberCases file number ++ roomCases file number (length before)) ≡ firstOf (roomCases file number (length before))
-      asked = first-pass 19 (numberCases file number) _ (number-numbered file number) (answer-gives _ _ i (sym e) .0)
+      asked = first-pass (numberCases file number) _ (number-positive file number) (answer-gives _ _ i (sym e) .0)
 
       pub job-short : length before < length b → OpensJob s file number before (refused 20) before
       unfolding writtenFor
@@ -68,16 +59,20 @@ module _ (file number : List ℕ) where
           let short = room-short (length before) (rw (← found-body) l) in
           record { answered = refusal-is 20 _ _ (sym (asked ∙ short)) (λ q. omega arith); bytes = refl }
 
-      pub job-open : (after : List ℕ) → length b ≤ length before
-          → after ≡ addStream (keystream s (prefixOf file number)) 0 b ++ drop (length b) before
-          → OpensJob s file number before (gives (length b)) after
+      pub job-open : (prefix after : List ℕ) → prefix ≡ prefixOf (archiveNumber file) number → length b ≤ length before
+          → after ≡ addStream (keystream s prefix) 0 b ++ drop (length b) before → OpensJob s file number before (gives (length b)) after
       unfolding writtenFor underKeystream
-      job-open after l w =
+      job-open prefix after ep l w =
           let enough = room-enough (length before) (rw (← found-body) l) in
+          let k : ℕ → ℕ = keystream s (prefixOf (archiveNumber file) number) in
           record {
             answered = ap gives (ap length found-body) ∙ sym (answer-none _ _ (asked ∙ enough));
-            bytes = w ∙ ap (λ (x : List ℕ). addStream (keystream s (prefixOf file number)) 0 x ++ drop (length b) before) found-body;
+            bytes = w
+                ∙ ap (λ (p : List ℕ). addStream (keystream s p) 0 b ++ drop (length b) before) ep
+                ∙ ap (λ (x : List ℕ). addStream k 0 x ++ drop (length b) before) found-body;
           }
+
+-- ---- after the check
 
 module _ (key file number before : List ℕ) where
   -- the archive is refused
@@ -85,8 +80,9 @@ module _ (key file number before : List ℕ) where
   unfolding writtenFor openCases findCases
   opens-refused n e h =
       let none : firstOf (checkCases key file) ≡ 0 → ⊥ = λ q. h (e ∙ q) in
+      let room = roomCases file number (length before) in
       let stop = first-stop (checkCases key file) (numberCases file number) none in
-      let all = first-stop (checkCases key file ++ numberCases file number) (roomCases file number (length before)) (λ q. none (sym stop ∙ q)) in
+      let all = first-stop (checkCases key file ++ numberCases file number) room (λ q. none (sym stop ∙ q)) in
       record { answered = refusal-is n _ _ (e ∙ sym (all ∙ stop)) h; bytes = refl }
 
   -- the archive is accepted: the cases of the number and of the buffer are left
@@ -94,9 +90,22 @@ module _ (key file number before : List ℕ) where
       → OpensJob s file number before a after → Opens key file number before a after
   unfolding openCases findCases
   opens-asked s a after e es o =
-      let all = ap firstOf (append-assoc (checkCases key file) (numberCases file number) (roomCases file number (length before))) in
-      let pass = first-pass 17 (checkCases key file) (numberCases file number ++ roomCases file number (length before)) (check-numbered key file) e in
+      let room = roomCases file number (length before) in
+      let all = ap firstOf (append-assoc (checkCases key file) (numberCases file number) room) in
+      let pass = first-pass (checkCases key file) (numberCases file number ++ room) (check-positive key file) e in
       record {
         answered = o .answered ∙ ap (λ (n : ℕ). answer n (length (bodyOf file number))) (sym (all ∙ pass));
-        bytes = o .bytes ∙ ap (λ (t : Schedule). writtenFor a (underKeystream t file number (bodyOf file number)) before) es;
+        bytes = o .bytes ∙ ap (λ (t : Schedule). writtenFor a (plainOf t file number) before) es;
       }
+
+  -- ---- the bytes opened stand at the buffer's front
+
+  pub opens-fits : (a : Answer) (after : List ℕ) → Opens key file number before a after → (n : ℕ) → a ≡ gives n → n ≤ length after
+  unfolding writtenFor underKeystream
+  opens-fits a after o n e =
+      let k : ℕ → ℕ = keystream (scheduleOf key) (prefixOf (archiveNumber file) number) in
+      let room = firstOf (openCases key file number (length before)) in
+      let size = answer-gives room (length (bodyOf file number)) n (sym (o .answered) ∙ e) .1 in
+      let bytes = o .bytes ∙ ap (λ (b : Answer). writtenFor b (plainOf (scheduleOf key) file number) before) e in
+      let all = ap length bytes ∙ length-append (addStream k 0 (bodyOf file number)) (drop n before) in
+      omega (arith, length-stream k 0 (bodyOf file number))

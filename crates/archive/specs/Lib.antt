@@ -1,6 +1,5 @@
-pub mod Header
 pub mod Check
 pub mod Find
 pub mod Open
-pub mod Readable
+pub mod Internal
 pub mod Theorems

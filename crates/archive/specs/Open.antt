@@ -1,33 +1,37 @@
--- Opening a job (01, The dryer archive): "A body is its plain bytes xor the forward sealing of counter blocks: archive number (4 bytes), the
--- eight digits, block index", that is counter mode with the archive number and the digits as prefix. "Opening writes the plain bytes at the
--- front of a lent buffer, answers how many, and leaves the rest of the buffer unaltered"; its refusals are those of finding, and 20.
+-- Opening a job (01, The dryer archive): "A body is its plain bytes xor the forward sealing of counter blocks: archive number (4 bytes),
+-- the eight digits, block index", that is counter mode with the archive number and the digits as prefix. "Opening writes the plain bytes at
+-- the front of a lent buffer, answers how many, and leaves the rest of the buffer unaltered"; its refusals are those of finding, and 20.
 -- Assumes nothing.
 use mathlib.Core.Path.{_≡_}
 use mathlib.Core.List.{List, [], _∷_, _++_}
 use Prim.Native.Nat.{ℕ}
 use lib.Dec.{ltb}
-use lib.ListN.{length, drop}
-use Rattle.format.specs.Cases.{Case, when, firstOf, Answer, refused, gives, answer}
-use Rattle.schedule.specs.KeySchedule.{scheduleOf}
-use Rattle.schedule.specs.declared.Schedule.{Schedule}
+use lib.ListN.{length}
+use Rattle.refusals.specs.Cases.{Case, when, firstOf}
+use Rattle.refusals.specs.Answers.{Answer, refused, gives, answer, writtenFor}
+use Rattle.circuit.specs.declared.Schedule.{Schedule}
+use Rattle.expansion.specs.KeySchedule.{scheduleOf}
 use Rattle.ctr.specs.Counter.{keystream, addStream}
+use Rattle.header.specs.Fields.{archiveNumber, directoryOf}
 use Rattle.directory.specs.Search.{indexOf}
-use Rattle.archive.specs.Header.{archiveNumber, contentsOf}
 use Rattle.archive.specs.Find.{findCases, bodyAt}
 use Rattle.archive.specs.declared.Opened.{Opened}
 use Rattle.archive.specs.declared.Opened.the-variants.{Bytes, Refused}
 
--- the first twelve bytes of a job's counter blocks
+-- the first twelve bytes of a job's counter blocks, from the archive number and the job number
 unfoldable pub prefixOf : List ℕ → List ℕ → List ℕ
-prefixOf file number = archiveNumber file ++ number
+prefixOf archive number = archive ++ number
 
 -- a job's bytes xor its keystream: of a sealed body the plain bytes, of plain bytes the sealed body
 unfoldable pub underKeystream : Schedule → List ℕ → List ℕ → List ℕ → List ℕ
-underKeystream s file number bytes = addStream (keystream s (prefixOf file number)) 0 bytes
+underKeystream s archive number bytes = addStream (keystream s (prefixOf archive number)) 0 bytes
 
--- the sealed body of the job that bears the number
+-- the sealed body of the job that bears the number, and its plain bytes
 abbrev pub bodyOf : List ℕ → List ℕ → List ℕ
-bodyOf file number = bodyAt file (indexOf (contentsOf file) number)
+bodyOf file number = bodyAt file (indexOf (directoryOf file) number)
+
+abbrev pub plainOf : Schedule → List ℕ → List ℕ → List ℕ
+plainOf s file number = underKeystream s (archiveNumber file) number (bodyOf file number)
 
 -- the case of a buffer of so many bytes
 unfoldable pub roomCases : List ℕ → List ℕ → ℕ → List Case
@@ -46,12 +50,7 @@ abbrev pub openedAs : Opened → Answer
 openedAs (Bytes n) = gives n
 openedAs (Refused n) = refused n
 
--- the buffer afterwards: n bytes at its front, the rest as it was; all as it was where the answer is a refusal
-unfoldable pub writtenFor : Answer → List ℕ → List ℕ → List ℕ
-writtenFor (gives n) bytes before = bytes ++ drop n before
-writtenFor (refused n) bytes before = before
-
 -- the contract of opening: a is its answer, and `after` what stands in the buffer that held `before`
 pub record Opens (key file number before : List ℕ) (a : Answer) (after : List ℕ) : Type 0 where
   pub answered : a ≡ openOf key file number (length before)
-  pub bytes : after ≡ writtenFor a (underKeystream (scheduleOf key) file number (bodyOf file number)) before
+  pub bytes : after ≡ writtenFor a (plainOf (scheduleOf key) file number) before

@@ -1,37 +1,41 @@
 -- Theorems beside the contracts, as statements; their proofs are `sound-archives` and `opening-xors` of proofs/Theorems.
 -- Assumes nothing.
 use mathlib.Core.Path.{_≡_}
-use mathlib.Core.List.{List, [], _++_}
-use Prim.Native.Nat.{ℕ, zero, suc, _<_}
+use mathlib.Core.List.{List, _++_}
+use Prim.Native.Nat.{ℕ, _<_}
 use lib.ListN.{length, getD, take}
+use Rattle.blocks.specs.Blocks.{row}
 use Rattle.blocks.specs.Xor.{_⊕_}
-use Rattle.format.specs.Cases.{gives}
-use Rattle.schedule.specs.declared.Schedule.{Schedule}
+use Rattle.refusals.specs.Answers.{gives}
+use Rattle.circuit.specs.declared.Schedule.{Schedule}
 use Rattle.ctr.specs.Counter.{keystream}
+use Rattle.header.specs.Fields.{directoryEnd, directoryOf, bodiesEnd}
 use Rattle.directory.specs.Entries.{entries}
 use Rattle.directory.specs.Sound.{Sound}
-use Rattle.archive.specs.Header.{contentsEnd, contentsOf, bodiesEnd}
 use Rattle.archive.specs.Check.{checkOf}
 use Rattle.archive.specs.Find.{bodyAt}
 use Rattle.archive.specs.Open.{prefixOf, underKeystream}
 
 -- the bodies of the first n jobs, in a row
 unfoldable pub bodies : List ℕ → ℕ → List ℕ
-bodies file zero = []
-bodies file (suc n) = bodies file n ++ bodyAt file n
+bodies file n = row (bodyAt file) n
 
 -- what an accepted archive has: a sound directory of as many entries as there are jobs, and bodies that tile the file from the
 -- directory's end to its own
 pub record SoundArchive (file : List ℕ) (n : ℕ) : Type 0 where
-  pub counted : entries (contentsOf file) ≡ n
-  pub sound : Sound (contentsOf file) (contentsEnd file) (bodiesEnd file)
-  pub tiled : take (contentsEnd file) file ++ bodies file n ≡ file
+  pub counted : entries (directoryOf file) ≡ n
+  pub sound : Sound (directoryOf file) (directoryEnd file) (bodiesEnd file)
+  pub tiled : take (directoryEnd file) file ++ bodies file n ≡ file
 
 abbrev pub SoundArchives : Type 0
 SoundArchives = (key file : List ℕ) (n : ℕ) → checkOf key file ≡ gives n → SoundArchive file n
 
 -- opening is exclusive-or with the keystream, so that doing it again gives the bytes again; there are as many plain bytes as sealed ones
-pub record OpeningXors (s : Schedule) (file number bytes : List ℕ) : Type 0 where
-  pub size : length (underKeystream s file number bytes) ≡ length bytes
-  pub byte : (j : ℕ) → j < length bytes → getD (underKeystream s file number bytes) j 0 ≡ getD bytes j 0 ⊕ keystream s (prefixOf file number) j
-  pub again : underKeystream s file number (underKeystream s file number bytes) ≡ bytes
+pub record OpeningXor (s : Schedule) (archive number bytes : List ℕ) : Type 0 where
+  pub size : length (underKeystream s archive number bytes) ≡ length bytes
+  pub byte : (j : ℕ) → j < length bytes
+      → getD (underKeystream s archive number bytes) j 0 ≡ getD bytes j 0 ⊕ keystream s (prefixOf archive number) j
+  pub again : underKeystream s archive number (underKeystream s archive number bytes) ≡ bytes
+
+abbrev pub OpeningXors : Type 0
+OpeningXors = (s : Schedule) (archive number bytes : List ℕ) → OpeningXor s archive number bytes

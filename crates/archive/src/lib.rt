@@ -1,29 +1,23 @@
-// The archive: checking it, its contents, finding a job, its sealed body, and opening it. Each public call prepares the key once and works
-// under the schedule. No call copies the file.
+// The archive: checking it, its directory, finding a job, its sealed body, and opening it. Each public call begins with the whole check of
+// key and file, which prepares the key once. No call copies the file.
+use circuit::Schedule;
 use directory::Found;
-use directory::entry;
-use format::byte_at;
-use format::same;
-use format::u16_at;
-use format::u32_at;
-use schedule::Outcome;
-use schedule::Schedule;
+use expansion::Outcome;
+use octets::part;
+use octets::u32_at;
 ghost use mathlib.Core.Path.{_≡_};
 ghost use mathlib.Core.Bool.{true};
 ghost use mathlib.Core.List.{_++_};
-ghost use Prim.Native.Nat.{_≤_, _<_};
+ghost use Prim.Native.Nat.{_≤_};
 ghost use lib.ListN.{length, drop};
-ghost use Rattle.format.specs.Bytes.{sameBytes};
-ghost use Rattle.format.specs.Cases.{firstOf, answer};
-ghost use Rattle.schedule.specs.Outcomes.{goodRounds};
+ghost use Rattle.refusals.specs.Cases.{firstOf};
+ghost use Rattle.refusals.specs.Shared.{goodRounds};
 ghost use Rattle.ctr.specs.Counter.{keystream, addStream};
-ghost use Rattle.directory.specs.Entries.{entries};
-ghost use Rattle.directory.specs.Search.{foundAs, indexOf};
-ghost use Rattle.archive.specs.Header.{contentsEnd, contentsOf, keyCheckOf, keyCheck};
-ghost use Rattle.archive.specs.Check.{headerCases, fileCases, checkOf, checkedAs, partFor, contentsGiven};
-ghost use Rattle.archive.specs.Find.{numberCases, Finds, bodyAt, bodyGiven};
+ghost use Rattle.directory.specs.Search.{foundAs};
+ghost use Rattle.archive.specs.Check.{keyCheck, fileCases, checkOf, checkedAs, GivesDirectory};
+ghost use Rattle.archive.specs.Find.{Finds, GivesBody};
 ghost use Rattle.archive.specs.Open.{prefixOf, openedAs, Opens};
-ghost use Rattle.archive.specs.Readable.{Readable, OpensJob};
+ghost use Rattle.archive.specs.Internal.{Admits, BodyPart, OpensJob, lookupOf};
 
 // Checking's answer: the job count, or a refusal's number.
 pub enum Checked {
@@ -37,57 +31,22 @@ pub enum Opened {
     Refused(u32),
 }
 
-// Whether the header's key check is that of the schedule.
-fn right_key(schedule: Schedule, file: &[u8]) -> bool
-    requires { ⌜ (goodRounds (schedule .rounds) ≡ true) × (20 ≤ length (now file)) ⌝ }
-    ensures { λ r. ⌜ r ≡ sameBytes (keyCheckOf (now (file .entry))) (keyCheck schedule) ⌝ }
+// What the whole check of key and file comes to: a refusal's number or 0, and the schedule of the key.
+struct Admitted {
+    number: u32,
+    schedule: Schedule,
+}
+
+// The key check of a schedule.
+fn key_check(schedule: Schedule) -> [u8; 8]
+    requires { ⌜ goodRounds (schedule .rounds) ≡ true ⌝ }
+    ensures { λ r. ⌜ r ≡ keyCheck schedule ⌝ }
 {
     let mut block = [255u8; 16];
     tables::run(schedule, &mut block);
-    same(&file[8..16], &block[0..8])
-}
-
-// The refusal of the header, or 0.
-fn header_refusal(schedule: Schedule, keysize: usize, file: &[u8]) -> u32
-    requires { ⌜ goodRounds (schedule .rounds) ≡ true ⌝ }
-    ensures { λ r. ⌜ r ≡ firstOf (headerCases schedule keysize (now (file .entry))) ⌝ }
-{
-    let len = file.len();
-    if len < 20 {
-        return 5;
-    }
-    if 65536 < len {
-        return 6;
-    }
-    if byte_at(file, 0) != 1 {
-        return 7;
-    }
-    if byte_at(file, 1) != keysize {
-        return 8;
-    }
-    let count = u16_at(file, 2);
-    if 64 < count {
-        return 9;
-    }
-    if u32_at(file, 16) != len {
-        return 10;
-    }
-    if len < 20 + 16 * count {
-        return 11;
-    }
-    if !right_key(schedule, file) {
-        return 12;
-    }
-    0
-}
-
-// The directory of a file that has room for it.
-fn contents_part(file: &[u8]) -> &[u8]
-    requires { ⌜ contentsEnd (now file) ≤ length (now file) ⌝ }
-    ensures { λ r. ⌜ now r ≡ contentsOf (now (file .entry)) ⌝ }
-{
-    let end = 20 + 16 * u16_at(file, 2);
-    &file[20..end]
+    let mut check = [0u8; 8];
+    octets::copy(&block, &mut check);
+    check
 }
 
 // The refusal of the file, or 0.
@@ -95,66 +54,73 @@ fn file_refusal(schedule: Schedule, keysize: usize, file: &[u8]) -> u32
     requires { ⌜ goodRounds (schedule .rounds) ≡ true ⌝ }
     ensures { λ r. ⌜ r ≡ firstOf (fileCases schedule keysize (now (file .entry))) ⌝ }
 {
-    let n = header_refusal(schedule, keysize, file);
+    let n = header::refusal(keysize, key_check(schedule), file);
     if n != 0 {
         return n;
     }
-    let from = 20 + 16 * u16_at(file, 2);
-    directory::refusal(contents_part(file), from, file.len())
+    directory::refusal(
+        header::directory(file),
+        header::directory_end(file),
+        file.len(),
+    )
+}
+
+// The whole check: the key, then the file under it.
+fn admit(key: &[u8], file: &[u8]) -> Admitted
+    ensures { λ r. ⌜ Admits (now (key .entry)) (now (file .entry)) r ⌝ }
+{
+    let p = preparation::prepare(key);
+    let outcome = p.outcome;
+    let schedule = p.schedule;
+    let Outcome::Ready = outcome else {
+        return Admitted {
+            number: expansion::number_of(outcome),
+            schedule,
+        };
+    };
+    Admitted {
+        number: file_refusal(schedule, key.len(), file),
+        schedule,
+    }
 }
 
 // Checks an archive: the job count.
 pub fn check(key: &[u8], file: &[u8]) -> Checked
     ensures { λ r. ⌜ checkedAs r ≡ checkOf (now (key .entry)) (now (file .entry)) ⌝ }
 {
-    let p = schedule::prepare(key);
-    let outcome = p.outcome;
-    let Outcome::Ready = outcome else {
-        return Checked::Refused(1);
-    };
-    let n = file_refusal(p.schedule, key.len(), file);
+    let n = admit(key, file).number;
     if n != 0 {
         return Checked::Refused(n);
     }
-    Checked::Jobs(u16_at(file, 2))
+    Checked::Jobs(header::count(file))
 }
 
-// The contents of an archive, as a part of the file; empty where checking refuses.
-pub fn contents<'a>(key: &[u8], file: &'a [u8]) -> &'a [u8]
-    ensures { λ r. ⌜ now r ≡ contentsGiven (now (key .entry)) (now (file .entry)) ⌝ }
+// The directory of an archive (01's contents), as a part of the file; empty where checking refuses.
+pub fn directory<'a>(key: &[u8], file: &'a [u8]) -> &'a [u8]
+    ensures { λ r. ⌜ GivesDirectory (now (key .entry)) (file .entry) r ⌝ }
 {
-    let p = schedule::prepare(key);
-    let outcome = p.outcome;
-    let Outcome::Ready = outcome else {
-        return &file[0..0];
-    };
-    if file_refusal(p.schedule, key.len(), file) != 0 {
-        return &file[0..0];
+    let n = admit(key, file).number;
+    if n != 0 {
+        return part(file, 0, 0);
     }
-    contents_part(file)
+    header::directory(file)
 }
 
-// Looks a job number up in a file that passed its checks.
+// Looks a job number up in the directory.
 fn lookup(file: &[u8], number: &[u8]) -> Found
-    requires { ⌜ Readable (now file) ⌝ }
-    ensures { λ r. ⌜ foundAs r ≡ answer (firstOf (numberCases (now (file .entry)) (now (number .entry)))) (indexOf (contentsOf (now (file .entry))) (now (number .entry))) ⌝ }
+    ensures { λ r. ⌜ foundAs r ≡ lookupOf (now (file .entry)) (now (number .entry)) ⌝ }
 {
-    if !directory::is_job_number(number) {
+    if !jobnumber::is_job_number(number) {
         return Found::Refused(18);
     }
-    directory::search(contents_part(file), number)
+    directory::search(header::directory(file), number)
 }
 
 // Finds a job: its index in the directory.
 pub fn find(key: &[u8], file: &[u8], number: &[u8]) -> Found
     ensures { λ r. ⌜ Finds (now (key .entry)) (now (file .entry)) (now (number .entry)) (foundAs r) ⌝ }
 {
-    let p = schedule::prepare(key);
-    let outcome = p.outcome;
-    let Outcome::Ready = outcome else {
-        return Found::Refused(1);
-    };
-    let n = file_refusal(p.schedule, key.len(), file);
+    let n = admit(key, file).number;
     if n != 0 {
         return Found::Refused(n);
     }
@@ -163,88 +129,48 @@ pub fn find(key: &[u8], file: &[u8], number: &[u8]) -> Found
 
 // The sealed body of entry i.
 fn body_at(file: &[u8], i: usize) -> &[u8]
-    requires { ⌜ Readable (now file) × (i < entries (contentsOf (now file))) ⌝ }
-    ensures { λ r. ⌜ now r ≡ bodyAt (now (file .entry)) i ⌝ }
+    ensures { λ r. ⌜ BodyPart (file .entry) i r ⌝ }
 {
-    let e = entry(contents_part(file), i);
-    let start = u32_at(e, 8);
-    let end = start + u32_at(e, 12);
-    &file[start..end]
-}
-
-// The sealed body of the job that bears a number, in a file that passed its checks; empty where there is none.
-fn body_of<'a>(file: &'a [u8], number: &[u8]) -> &'a [u8]
-    requires { ⌜ Readable (now file) ⌝ }
-    ensures { λ r. ⌜ now r ≡ partFor (answer (firstOf (numberCases (now (file .entry)) (now (number .entry)))) (indexOf (contentsOf (now (file .entry))) (now (number .entry)))) (bodyAt (now (file .entry))) ⌝ }
-{
-    let f = lookup(file, number);
-    match f {
-        Found::Refused(_) => &file[0..0],
-        Found::At(i) => body_at(file, i),
-    }
+    let e = directory::entry(header::directory(file), i);
+    part(file, u32_at(e, 8), u32_at(e, 12))
 }
 
 // The sealed body of a job, as a part of the file; empty where finding refuses.
 pub fn body<'a>(key: &[u8], file: &'a [u8], number: &[u8]) -> &'a [u8]
-    ensures { λ r. ⌜ now r ≡ bodyGiven (now (key .entry)) (now (file .entry)) (now (number .entry)) ⌝ }
+    ensures { λ r. ⌜ GivesBody (now (key .entry)) (file .entry) (now (number .entry)) r ⌝ }
 {
-    let p = schedule::prepare(key);
-    let outcome = p.outcome;
-    let Outcome::Ready = outcome else {
-        return &file[0..0];
-    };
-    if file_refusal(p.schedule, key.len(), file) != 0 {
-        return &file[0..0];
+    let f = find(key, file, number);
+    match f {
+        Found::Refused(_) => part(file, 0, 0),
+        Found::At(i) => body_at(file, i),
     }
-    body_of(file, number)
 }
 
 // The first twelve bytes of a job's counter blocks: archive number and digits.
-fn prefix(file: &[u8], number: &[u8]) -> [u8; 12]
-    requires { ⌜ (8 ≤ length (now file)) × (length (now number) ≡ 8) ⌝ }
-    ensures { λ r. ⌜ r ≡ prefixOf (now (file .entry)) (now (number .entry)) ⌝ }
+fn prefix(archive: &[u8], number: &[u8]) -> [u8; 12]
+    requires { ⌜ (length (now archive) ≡ 4) × (length (now number) ≡ 8) ⌝ }
+    ensures { λ r. ⌜ r ≡ prefixOf (now (archive .entry)) (now (number .entry)) ⌝ }
 {
-    [
-        file[4],
-        file[5],
-        file[6],
-        file[7],
-        number[0],
-        number[1],
-        number[2],
-        number[3],
-        number[4],
-        number[5],
-        number[6],
-        number[7],
-    ]
-}
-
-// Copies a body to the front of a buffer that has room for it.
-fn copy(body: &[u8], out: &mut [u8])
-    requires { ⌜ length (now body) ≤ length (now out) ⌝ }
-    ensures { λ _. ⌜ now (out .exit) ≡ now (body .entry) ++ drop (length (now (body .entry))) (now (out .entry)) ⌝ }
-{
-    let mut j: usize = 0;
-    while j < body.len() {
-        out[j] = body[j];
-        j += 1;
-    }
+    let mut bytes = [0u8; 12];
+    let next = octets::put(&mut bytes, 0, archive);
+    octets::put(&mut bytes, next, number);
+    bytes
 }
 
 // Writes the plain bytes of a body to the front of a buffer that has room for them.
 fn decrypt(schedule: Schedule, prefix: [u8; 12], body: &[u8], out: &mut [u8])
     requires { ⌜ (goodRounds (schedule .rounds) ≡ true) × (length (now body) ≤ length (now out)) ⌝ }
-    ensures { λ _. ⌜ now (out .exit) ≡ addStream (keystream schedule prefix) 0 (now (body .entry)) ++ drop (length (now (body .entry))) (now (out .entry)) ⌝ }
+    ensures { λ _. ⌜ now (out .exit)
+        ≡ addStream (keystream schedule prefix) 0 (now (body .entry)) ++ drop (length (now (body .entry))) (now (out .entry)) ⌝ }
 {
-    copy(body, out);
+    octets::copy(body, out);
     let n = body.len();
     ctr::apply(schedule, prefix, &mut out[0..n]);
 }
 
 // Opens a job of a file that passed its checks.
 fn open_job(schedule: Schedule, file: &[u8], number: &[u8], out: &mut [u8]) -> Opened
-    requires { ⌜ (goodRounds (schedule .rounds) ≡ true) × Readable (now file) ⌝ }
+    requires { ⌜ (goodRounds (schedule .rounds) ≡ true) × (20 ≤ length (now file)) ⌝ }
     ensures { λ r. ⌜ OpensJob schedule (now (file .entry)) (now (number .entry)) (now (out .entry)) (openedAs r) (now (out .exit)) ⌝ }
 {
     let f = lookup(file, number);
@@ -256,7 +182,12 @@ fn open_job(schedule: Schedule, file: &[u8], number: &[u8], out: &mut [u8]) -> O
             if out.len() < n {
                 return Opened::Refused(20);
             }
-            decrypt(schedule, prefix(file, number), b, out);
+            decrypt(
+                schedule,
+                prefix(header::archive_number(file), number),
+                b,
+                out,
+            );
             Opened::Bytes(n)
         }
     }
@@ -264,16 +195,13 @@ fn open_job(schedule: Schedule, file: &[u8], number: &[u8], out: &mut [u8]) -> O
 
 // Opens a job: its plain bytes at the front of a buffer.
 pub fn open(key: &[u8], file: &[u8], number: &[u8], out: &mut [u8]) -> Opened
-    ensures { λ r. ⌜ Opens (now (key .entry)) (now (file .entry)) (now (number .entry)) (now (out .entry)) (openedAs r) (now (out .exit)) ⌝ }
+    ensures { λ r. ⌜ Opens (now (key .entry)) (now (file .entry)) (now (number .entry)) (now (out .entry))
+        (openedAs r) (now (out .exit)) ⌝ }
 {
-    let p = schedule::prepare(key);
-    let outcome = p.outcome;
-    let Outcome::Ready = outcome else {
-        return Opened::Refused(1);
-    };
-    let n = file_refusal(p.schedule, key.len(), file);
+    let a = admit(key, file);
+    let n = a.number;
     if n != 0 {
         return Opened::Refused(n);
     }
-    open_job(p.schedule, file, number, out)
+    open_job(a.schedule, file, number, out)
 }

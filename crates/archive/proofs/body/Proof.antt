@@ -1,71 +1,45 @@
--- `archive::body` meets its contract: the part is empty where finding refuses.
+-- `archive::body` meets its contract: the part is empty where finding refuses, and a body that is found lies within the file.
 -- Assumes nothing.
 use mathlib.Core.Path.{sym, ap, _∙_}
-use Rattle.schedule.proofs.Taken.{rounds-ready}
-use native.Mathlib.Omega.{arith}
-use Rattle.format.specs.Cases.{Answer}
-use Rattle.archive.specs.Check.{partFor}
-use Rattle.archive.specs.Find.{bodyAt}
-use Rattle.archive.proofs.Stages.{check-else, check-ready, readable, find-refused, find-asked, part-refused}
 use borrow.Author.Needs.{needs}
+use Rattle.directory.specs.Search.{foundAs}
+use Rattle.archive.proofs.Finding.{body-refused, body-given}
 use Rattle.archive.proofs.body.Statement.{statement}
 use Rattle.archive.proofs.body.Tie as tie
 
-prepare-requires : tie.Need-prepare-requires
-prepare-requires c κs = search needs
+find-requires : tie.Need-find-requires
+find-requires c κs = search needs
 
 enum-told : tie.Need-enum-told
 enum-told c = search needs
 
-sub-result : tie.Need-sub-result
-sub-result c = search needs
+part-requires : tie.Need-part-requires
+part-requires c κs = search needs
 
-part-result-start : tie.Need-part-result-start
-part-result-start c = search needs
+enum-known-f : tie.Need-enum-known-f
+enum-known-f c = search needs
 
-part-result-end : tie.Need-part-result-end
-part-result-end c = search needs
+body-at-requires : tie.Need-body-at-requires
+body-at-requires c κs = search needs
 
 returns : tie.Need-returns
-returns c = part-refused _ 1 _ (find-refused _ _ _ 1 (check-else _ _ _ (c .before .before .prepare .ensures) (c .before .match .keys2)) (λ q. omega arith))
-
-file-refusal-requires : tie.Need-file-refusal-requires
-file-refusal-requires c κs = rounds-ready _ _ (c .before .before .prepare .ensures) (c .enum-told .given .1)
-
-sub-result-2 : tie.Need-sub-result-2
-sub-result-2 c = search needs
-
-part-result-start-2 : tie.Need-part-result-start-2
-part-result-start-2 c = search needs
-
-part-result-end-2 : tie.Need-part-result-end-2
-part-result-end-2 c = search needs
+returns c =
+    let found = c .before .before .before .find .ensures .answered in
+    body-refused _ _ _ _ _ (sym (ap foundAs (c .before .enum-told .given .1)) ∙ found) (c .part .ensures .bytes)
 
 returns-2 : tie.Need-returns-2
-returns-2 c = part-refused _ _ _ (find-refused _ _ _ _ (check-ready _ _ _ (c .before .before .before .before .before .prepare .ensures) _ (c .before .before .before .enum-told .given .1) (c .before .before .file-refusal .ensures)) (c .before .if1 .taken))
-
-body-of-requires : tie.Need-body-of-requires
-body-of-requires c κs = readable _ _ (sym (check-ready _ _ _ (c .before .before .before .before .prepare .ensures) _ (c .before .before .enum-told .given .1) (c .before .file-refusal .ensures)) ∙ c .if1 .left)
-
-returns-3 : tie.Need-returns-3
-returns-3 c =
-    c .body-of .ensures
-    ∙ ap (λ (a : Answer). partFor a (bodyAt (c .before .before .before .before .before .before .before .before .before .args .file .now))) (find-asked _ _ _ (sym (check-ready _ _ _ (c .before .before .before .before .before .prepare .ensures) _ (c .before .before .before .enum-told .given .1) (c .before .before .file-refusal .ensures)) ∙ c .before .if1 .left))
+returns-2 c =
+    let found = c .before .before .before .before .find .ensures .answered in
+    body-given _ _ _ _ _ (sym (ap foundAs (c .before .before .f .given .1)) ∙ found) (c .body-at .ensures)
 
 pub body-spec : {M : Type 1} → statement M
 body-spec =
     tie.close
     (tie.spec
-    prepare-requires
+    find-requires
     enum-told
-    sub-result
-    part-result-start
-    part-result-end
+    part-requires
+    enum-known-f
+    body-at-requires
     returns
-    file-refusal-requires
-    sub-result-2
-    part-result-start-2
-    part-result-end-2
-    returns-2
-    body-of-requires
-    returns-3)
+    returns-2)

@@ -1,8 +1,8 @@
 -- `archive::decrypt` meets its contract: the body is copied to the buffer's front, and counter mode works on that part.
 -- Assumes nothing.
 use native.Mathlib.Nat.{sub-zero}
-use Rattle.archive.proofs.Sealing.{decrypted}
 use borrow.Author.Needs.{needs}
+use Rattle.archive.proofs.Plaintext.{decrypted}
 use Rattle.archive.proofs.decrypt.Statement.{statement}
 use Rattle.archive.proofs.decrypt.Tie as tie
 
@@ -26,8 +26,11 @@ same-length c = search needs
 
 returns : tie.Need-returns
 returns c =
-    let s = c .before .before .before .before .before .before .before .before .before .before in
-    decrypted _ _ (s .args .body .now) (s .args .out .now) _ _ _ _ (s .pre .0) (sub-zero _) (c .before .before .before .before .before .before .copy .ensures) (c .before .before .apply .ensures)
+    let copied = c .before .before .before .before .before .before in
+    let s = copied .before .before .before .before in
+    let body = s .args .body .now in
+    let out = s .args .out .now in
+    decrypted _ _ body out _ _ _ _ (s .pre .0) (sub-zero _) (s .pre .1) (copied .copy .ensures) (c .before .before .apply .ensures)
 
 pub decrypt-spec : {M : Type 1} → statement M
 decrypt-spec =

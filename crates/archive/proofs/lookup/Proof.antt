@@ -2,9 +2,9 @@
 -- Assumes nothing.
 use mathlib.Core.Path.{sym, _∙_}
 use borrow.Author.Tests.{not-true, not-false}
-use Rattle.format.specs.Cases.{firstOf}
-use Rattle.archive.specs.Find.{numberCases}
 use borrow.Author.Needs.{needs}
+use Rattle.refusals.specs.Cases.{firstOf}
+use Rattle.archive.specs.Find.{numberCases}
 use Rattle.archive.proofs.lookup.Statement.{statement}
 use Rattle.archive.proofs.lookup.Tie as tie
 
@@ -15,8 +15,8 @@ returns : tie.Need-returns
 unfolding numberCases firstOf
 returns c = simp (sym (c .before .is-job-number .ensures) ∙ not-true (c .before .is-job-number .result) (c .if1 .taken))
 
-contents-part-requires : tie.Need-contents-part-requires
-contents-part-requires c κs = search needs
+directory-requires : tie.Need-directory-requires
+directory-requires c κs = search needs
 
 search-requires : tie.Need-search-requires
 search-requires c κs = search needs
@@ -24,10 +24,13 @@ search-requires c κs = search needs
 returns-2 : tie.Need-returns-2
 unfolding numberCases firstOf
 returns-2 c =
-    rw (sym (c .before .before .before .is-job-number .ensures) ∙ not-false (c .before .before .before .is-job-number .result) (c .before .before .if1 .left), ← c .before .contents-part .ensures)
-    (c .search .ensures .answered)
+    let asked = c .before .before .before in
+    rw (
+      sym (asked .is-job-number .ensures) ∙ not-false (asked .is-job-number .result) (c .before .before .if1 .left),
+      ← c .before .directory .ensures .bytes,
+    ) (c .search .ensures .answered)
 
 pub lookup-spec : {M : Type 1} → statement M
 lookup-spec =
     tie.close
-    (tie.spec is-job-number-requires returns contents-part-requires search-requires returns-2)
+    (tie.spec is-job-number-requires returns directory-requires search-requires returns-2)

@@ -1,15 +1,12 @@
 -- `archive::open_job` meets its contract: the job is looked up, the buffer's length is tested, and the body is decrypted.
 -- Assumes nothing.
 use mathlib.Core.Path.{sym, ap, _∙_}
-use mathlib.Core.List.{List, _++_}
-use Prim.Native.Nat.{ℕ}
-use native.Mathlib.Omega.{arith}
-use lib.ListN.{length, drop}
-use Rattle.ctr.specs.Counter.{keystream, addStream}
-use Rattle.directory.specs.Search.{foundAs}
-use Rattle.archive.proofs.Stages.{number-inside}
-use Rattle.archive.proofs.Opening.{number-eight, job-refused, job-short, job-open}
+use lib.ListN.{length}
 use borrow.Author.Needs.{needs}
+use Rattle.header.proofs.Accepted.{number-length}
+use Rattle.directory.specs.Search.{foundAs}
+use Rattle.archive.proofs.Finding.{lookup-eight}
+use Rattle.archive.proofs.Opening.{job-refused, job-short, job-open}
 use Rattle.archive.proofs.open_job.Statement.{statement}
 use Rattle.archive.proofs.open_job.Tie as tie
 
@@ -23,15 +20,23 @@ enum-known-f-2 : tie.Need-enum-known-f-2
 enum-known-f-2 c = search needs
 
 body-at-requires : tie.Need-body-at-requires
-body-at-requires c κs = (c .before .before .before .before .before .before .before .pre .1, number-inside _ _ _ (sym (ap foundAs (c .before .f2 .given .1)) ∙ c .before .before .before .lookup .ensures))
+body-at-requires c κs = search needs
 
 returns : tie.Need-returns
-returns c = job-short _ _ _ _ _ _ (sym (ap foundAs (c .before .before .before .f2 .given .1)) ∙ c .before .before .before .before .before .lookup .ensures) (c .before .body-at .ensures) (c .if1 .taken)
+returns c =
+    let at = c .before .before .before in
+    let told = sym (ap foundAs (at .f2 .given .1)) ∙ at .before .before .lookup .ensures in
+    job-short _ _ _ _ _ _ told (c .before .body-at .ensures .bytes) (c .if1 .taken)
+
+archive-number-requires : tie.Need-archive-number-requires
+archive-number-requires c κs = search needs
 
 prefix-requires : tie.Need-prefix-requires
 prefix-requires c κs =
-    let room = c .before .before .before .before .before .before .before .before .before .pre .1 .room in
-    (omega arith, number-eight _ _ _ (sym (ap foundAs (c .before .before .before .f2 .given .1)) ∙ c .before .before .before .before .before .lookup .ensures))
+    let at = c .before .before .before .before in
+    let s = at .before .before .before .before .before .before in
+    let told = sym (ap foundAs (at .f2 .given .1)) ∙ at .before .before .lookup .ensures in
+    (ap length (c .archive-number .ensures .bytes) ∙ number-length _ (s .pre .1), lookup-eight _ _ _ told)
 
 decrypt-requires : tie.Need-decrypt-requires
 decrypt-requires c κs = search needs
@@ -44,11 +49,13 @@ same-length c = search needs
 
 returns-3 : tie.Need-returns-3
 returns-3 c =
-    let a = c .before .before .before .before .before .before .before .before .before .before .before .before .before .before .args in
-    let b : List ℕ = c .before .before .before .before .before .before .body-at .result .now in
-    job-open _ _ _ _ _ _ (sym (ap foundAs (c .before .before .before .before .before .before .before .before .f2 .given .1)) ∙ c .before .before .before .before .before .before .before .before .before .before .lookup .ensures) (c .before .before .before .before .before .before .body-at .ensures) _ (c .before .before .before .before .before .if1 .left)
-    (c .before .before .decrypt .ensures
-    ∙ ap (λ (p : List ℕ). addStream (keystream (a .schedule) p) 0 b ++ drop (length b) (a .out .now)) (c .before .before .before .before .prefix .ensures))
+    let decrypted = c .before .before in
+    let prefixed = decrypted .before .before in
+    let sized = prefixed .before .before in
+    let at = sized .before .before .before in
+    let told = sym (ap foundAs (at .f2 .given .1)) ∙ at .before .before .lookup .ensures in
+    let prefix = rw (prefixed .before .archive-number .ensures .bytes) at (prefixed .prefix .ensures) in
+    job-open _ _ _ _ _ _ told (sized .before .body-at .ensures .bytes) _ _ prefix (sized .if1 .left) (decrypted .decrypt .ensures)
 
 pub open-job-spec : {M : Type 1} → statement M
 open-job-spec =
@@ -59,6 +66,7 @@ open-job-spec =
     enum-known-f-2
     body-at-requires
     returns
+    archive-number-requires
     prefix-requires
     decrypt-requires
     returns-2
