@@ -2,18 +2,20 @@
 -- Assumes nothing.
 use mathlib.Core.Path.{_≡_, sym, ap, _∙_, subst}
 use mathlib.Core.List.{List, _++_}
-use Prim.Native.Nat.{ℕ, zero, suc, _+_, _-_, _*_, _≤_, _<_}
+use Prim.Native.Nat.{ℕ, zero, suc, _+_, _*_, _≤_, _<_}
 use native.Mathlib.Nat.{zero-add}
 use native.Mathlib.Omega.{arith}
 use lib.ListN.{length, drop, replicate, length-take, length-replicate}
 use lib.Seq.{length-take-le}
-use Rattle.blocks.proofs.Parts.{drop-replicate}
+use Rattle.octets.specs.Parts.{laid}
+use Rattle.octets.proofs.Parts.{drop-replicate}
+use Rattle.blocks.specs.Blocks.{row}
 use Rattle.directory.specs.Entries.{entries, entryAt, numberOf, startOf, sizeOf}
 use Rattle.listing.specs.Text.{numberLine, jobLine, jobLines}
-use Rattle.listing.specs.Put.{laid, Put}
-use Rattle.listing.specs.Listing.{Holds, Printable}
+use Rattle.listing.specs.Listing.{Holds}
+use Rattle.listing.specs.Internal.{Lays, Printable}
 use Rattle.listing.specs.declared.Listing.{Listing}
-use Rattle.listing.proofs.DecimalLaws.{limit, length-decimal}
+use Rattle.listing.proofs.Decimal.{limit, length-decimal}
 use Rattle.listing.proofs.Lines.{length-field, length-number-line, length-job-line, lines-more}
 
 pub number-line-short : (word : List ℕ) (k n : ℕ) → n < limit k → length (numberLine word n) ≤ length word + k + 2
@@ -31,20 +33,21 @@ job-line-short e hs hl =
       length-decimal 4 (sizeOf e) hl,
     )
 
-pub lines-short : (contents : List ℕ) → Printable contents → (n : ℕ) → n ≤ entries contents → length (jobLines contents n) ≤ 21 * n
-unfolding jobLines
-lines-short contents p zero h = omega arith
-lines-short contents p (suc n) h =
+pub lines-short : (d : List ℕ) → Printable d → (n : ℕ) → n ≤ entries d → length (jobLines d n) ≤ 21 * n
+unfolding jobLines row
+lines-short d p zero h = omega arith
+lines-short d p (suc n) h =
     omega (
       arith,
-      lines-more contents n,
-      lines-short contents p n (omega arith),
-      job-line-short (entryAt contents n) (p .starts n h) (p .sizes n h),
+      lines-more d n,
+      lines-short d p n (omega arith),
+      job-line-short (entryAt d n) (p .starts n h) (p .sizes n h),
     )
 
-pub put-held : (s : List ℕ) (r : Listing) → length s ≤ 1352 → Put (replicate 1352 0) 0 s (r .length) (r .text) → Holds s r
+pub lays-held : (s : List ℕ) (r : Listing) → length s ≤ 1352 → Lays (replicate 1352 0) 0 s (r .length) (r .text) → Holds s r
 unfolding laid
-put-held s r h p =
+lays-held s r h l =
+    let p = l .put (omega (arith, length-replicate {A = ℕ} 1352 0)) in
     let place : 0 + length s ≡ length s = zero-add (length s) in
     let all : length (r .text) ≡ 1352 = p .same ∙ length-replicate {A = ℕ} 1352 0 in
     let within : r .length ≤ length (r .text) = omega (arith, p .end) in

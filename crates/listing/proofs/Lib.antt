@@ -1,5 +1,5 @@
-pub mod DecimalLaws
-pub mod Laying
+pub mod Decimal
+pub mod Pieces
 pub mod Lines
 pub mod Fits
 pub mod Accepted

@@ -1,4 +1,4 @@
 pub mod Decimal
 pub mod Text
-pub mod Put
 pub mod Listing
+pub mod Internal

@@ -2,17 +2,16 @@
 -- Assumes nothing.
 use mathlib.Core.Path.{_≡_}
 use mathlib.Core.List.{List, _++_}
-use Prim.Native.Nat.{ℕ, _-_, _≤_, _<_}
+use Prim.Native.Nat.{ℕ, _-_, _≤_}
 use lib.ListN.{length, take, replicate}
-use Rattle.directory.specs.Entries.{entries, entryAt, startOf, sizeOf}
-use Rattle.archive.specs.Header.{contentsOf}
+use Rattle.header.specs.Fields.{directoryOf}
 use Rattle.archive.specs.Check.{checkOf}
 use Rattle.listing.specs.Text.{textOf}
 use Rattle.listing.specs.declared.Listing.{Listing}
 
 -- the text that `jobs` prints for a key and a file
 abbrev pub listingText : List ℕ → List ℕ → List ℕ
-listingText key file = textOf (checkOf key file) (contentsOf file)
+listingText key file = textOf (checkOf key file) (directoryOf file)
 
 -- r holds the text s: its length, and the text at the front of the buffer with zeros behind it. The last two follow from these; they are
 -- what writing the front of the buffer asks
@@ -21,10 +20,3 @@ pub record Holds (s : List ℕ) (r : Listing) : Type 0 where
   pub text : r .text ≡ s ++ replicate (1352 - length s) 0
   pub within : r .length ≤ length (r .text)
   pub front : r .length ≡ length (take (r .length) (r .text))
-
--- contents whose listing fits into the buffer, as those of an accepted archive: 64 entries at most, with starts and lengths of five digits
--- at most
-pub record Printable (contents : List ℕ) : Type 0 where
-  pub few : entries contents ≤ 64
-  pub starts : (i : ℕ) → i < entries contents → startOf (entryAt contents i) < 100000
-  pub sizes : (i : ℕ) → i < entries contents → sizeOf (entryAt contents i) < 100000

@@ -1,10 +1,11 @@
--- `listing::list` meets its contract: the answer of checking picks the line of a refusal, or the lines of the contents, which are printable.
+-- `listing::list` meets its contract: the answer of checking picks the line of a refusal, or the lines of the directory, which is
+-- printable.
 -- Assumes nothing.
 use mathlib.Core.Path.{sym, ap, _∙_}
+use borrow.Author.Needs.{needs}
 use Rattle.archive.specs.Check.{checkedAs}
 use Rattle.listing.proofs.Fits.{held-as}
 use Rattle.listing.proofs.Accepted.{given-printable, given-text, refused-text}
-use borrow.Author.Needs.{needs}
 use Rattle.listing.proofs.list.Statement.{statement}
 use Rattle.listing.proofs.list.Tie as tie
 
@@ -20,20 +21,23 @@ refusal-requires c κs = search needs
 enum-told : tie.Need-enum-told
 enum-told c = search needs
 
-contents-requires : tie.Need-contents-requires
-contents-requires c κs = search needs
+directory-requires : tie.Need-directory-requires
+directory-requires c κs = search needs
 
 jobs-requires : tie.Need-jobs-requires
 jobs-requires c κs =
-    given-printable _ _ _ (sym (ap checkedAs (c .before .enum-told .given .1)) ∙ c .before .before .before .check .ensures) _ (c .contents .ensures)
+    let told = sym (ap checkedAs (c .before .enum-told .given .1)) ∙ c .before .before .before .check .ensures in
+    given-printable _ _ _ told _ (c .directory .ensures .bytes)
 
 returns : tie.Need-returns
 returns c =
-    held-as (refused-text _ _ _ (sym (ap checkedAs (c .before .before .checked .given .1)) ∙ c .before .before .before .before .check .ensures)) (c .refusal .ensures)
+    let told = sym (ap checkedAs (c .before .before .checked .given .1)) ∙ c .before .before .before .before .check .ensures in
+    held-as (refused-text _ _ _ told) (c .refusal .ensures)
 
 returns-2 : tie.Need-returns-2
 returns-2 c =
-    held-as (given-text _ _ _ (sym (ap checkedAs (c .before .before .enum-told .given .1)) ∙ c .before .before .before .before .check .ensures) _ (c .before .contents .ensures)) (c .jobs .ensures)
+    let told = sym (ap checkedAs (c .before .before .enum-told .given .1)) ∙ c .before .before .before .before .check .ensures in
+    held-as (given-text _ _ _ told _ (c .before .directory .ensures .bytes)) (c .jobs .ensures)
 
 pub list-spec : {M : Type 1} → statement M
 list-spec =
@@ -43,7 +47,7 @@ list-spec =
     enum-known-checked
     refusal-requires
     enum-told
-    contents-requires
+    directory-requires
     jobs-requires
     returns
     returns-2)

@@ -1,30 +1,28 @@
--- `listing::put_digit` meets its contract: the one store is one byte laid.
+-- `listing::put_digit` meets its contract: one byte is put.
 -- Assumes nothing.
-use mathlib.Core.Path.{refl}
 use borrow.Author.Needs.{needs}
-use native.Mathlib.Omega.{arith}
-use lib.ListN.{length-set}
-use Rattle.listing.proofs.Laying.{laid-set}
+use Rattle.listing.proofs.Pieces.{puts-lays}
 use Rattle.listing.proofs.put_digit.Statement.{statement}
 use Rattle.listing.proofs.put_digit.Tie as tie
 
-cast-text : tie.Need-cast-text
-cast-text c = search needs
+cast-t6 : tie.Need-cast-t6
+cast-t6 c = search needs
 
-add-text : tie.Need-add-text
-add-text c = search needs
+add-t7 : tie.Need-add-t7
+add-t7 c = search needs
 
-slice-write-text : tie.Need-slice-write-text
-slice-write-text c = search needs
+slice-aggregate-put : tie.Need-slice-aggregate-put
+slice-aggregate-put c = search needs
 
-add-result : tie.Need-add-result
-add-result c = search needs
+put-requires : tie.Need-put-requires
+put-requires c κs = search needs
 
 same-length : tie.Need-same-length
 same-length c = search needs
 
 returns : tie.Need-returns
-returns c = record { end = refl; text = laid-set _ _ _ (omega arith); same = simp length-set }
+returns c = puts-lays (c .before .before .put .ensures)
 
 pub put-digit-spec : {M : Type 1} → statement M
-put-digit-spec = tie.close (tie.spec cast-text add-text slice-write-text add-result same-length returns)
+put-digit-spec =
+    tie.close (tie.spec cast-t6 add-t7 slice-aggregate-put put-requires same-length returns)

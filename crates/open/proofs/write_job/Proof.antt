@@ -2,9 +2,9 @@
 -- Assumes nothing.
 use mathlib.Core.Path.{sym, ap}
 use lib.Seq.{length-take-le}
-use Rattle.archive.specs.Open.{openedAs}
-use Rattle.open.proofs.Fits.{opens-fits}
 use borrow.Author.Needs.{needs}
+use Rattle.archive.specs.Open.{openedAs}
+use Rattle.archive.proofs.Opening.{opens-fits}
 use Rattle.open.proofs.write_job.Statement.{statement}
 use Rattle.open.proofs.write_job.Tie as tie
 
@@ -25,13 +25,13 @@ enum-known-opened-2 c = search needs
 
 array-share-prefix-plain : tie.Need-array-share-prefix-plain
 array-share-prefix-plain c =
-    let o = c .before .before .before .before .«open» in
-    opens-fits _ _ _ _ _ _ _ (ap openedAs (c .before .opened2 .given .1)) (o .ensures) (o .kept .1 .1 .1 .0)
+    let o = c .before .before .before .before .«open» .ensures in
+    opens-fits _ _ _ _ _ _ o _ (ap openedAs (c .before .opened2 .given .1))
 
 slice-aggregate-write-all : tie.Need-slice-aggregate-write-all
 slice-aggregate-write-all c =
-    let o = c .before .before .before .before .before .«open» in
-    sym (length-take-le _ _ (opens-fits _ _ _ _ _ _ _ (ap openedAs (c .before .before .opened2 .given .1)) (o .ensures) (o .kept .1 .1 .1 .0)))
+    let o = c .before .before .before .before .before .«open» .ensures in
+    sym (length-take-le _ _ (opens-fits _ _ _ _ _ _ o _ (ap openedAs (c .before .before .opened2 .given .1))))
 
 write-all-requires : tie.Need-write-all-requires
 write-all-requires c κs = search needs

@@ -9,7 +9,7 @@ use native.Mathlib.Omega.{arith}
 use lib.Dec.{ltb}
 use lib.ListN.{length, length-append}
 use borrow.Author.Tests.{ltb-true, ltb-false, lt-ltb, le-ltb}
-use Rattle.listing.specs.Decimal.{digitsIn, decimal}
+use Rattle.listing.specs.Decimal.{digitsIn, decimalDigits, reading, DecimalReads}
 
 -- one step
 digits-small : (steps n : ℕ) → n < 10 → digitsIn (suc steps) n ≡ (48 + n) ∷ []
@@ -41,12 +41,14 @@ enough (suc f) (suc g) n hf hg =
     ∙ sym (digits-more g n h))
     (size n)
 
-pub decimal-small : (n : ℕ) → n < 10 → decimal n ≡ (48 + n) ∷ []
-unfolding decimal
-decimal-small n h = digits-small n n h
+pub decimal-small : (n : ℕ) → n < 10 → decimalDigits n ≡ (48 + n % 10) ∷ []
+unfolding decimalDigits
+decimal-small n h =
+    let one : n ≡ n % 10 = omega arith in
+    digits-small n n h ∙ ap (λ (m : ℕ). (48 + m) ∷ []) one
 
-pub decimal-more : (n : ℕ) → 10 ≤ n → decimal n ≡ decimal (n / 10) ++ ((48 + n % 10) ∷ [])
-unfolding decimal
+pub decimal-more : (n : ℕ) → 10 ≤ n → decimalDigits n ≡ decimalDigits (n / 10) ++ ((48 + n % 10) ∷ [])
+unfolding decimalDigits
 decimal-more n h =
     digits-more n n h ∙ ap (λ (l : List ℕ). l ++ ((48 + n % 10) ∷ [])) (enough n (suc (n / 10)) (n / 10) (omega arith) (omega arith))
 
@@ -55,28 +57,23 @@ abbrev pub limit : ℕ → ℕ
 limit zero = 10
 limit (suc k) = 10 * limit k
 
-pub length-decimal : (k n : ℕ) → n < limit k → length (decimal n) ≤ suc k
+pub length-decimal : (k n : ℕ) → n < limit k → length (decimalDigits n) ≤ suc k
 length-decimal zero n h = rw (decimal-small n h) (omega arith)
 length-decimal (suc k) n h =
     ⊎-elim
     (λ (l : n < 10). rw (decimal-small n l) (omega arith))
     (λ (l : 10 ≤ n).
-    let rest : length (decimal (n / 10)) ≤ suc k = length-decimal k (n / 10) (omega arith) in
+    let rest : length (decimalDigits (n / 10)) ≤ suc k = length-decimal k (n / 10) (omega arith) in
     rw (decimal-more n l) (simp length-append (omega arith)))
     (size n)
-
--- the number that a list of digits is, after one that is v
-abbrev pub reading : ℕ → List ℕ → ℕ
-reading v [] = v
-reading v (x ∷ xs) = reading (v * 10 + (x - 48)) xs
 
 reading-append : (v : ℕ) (xs ys : List ℕ) → reading v (xs ++ ys) ≡ reading (reading v xs) ys
 reading-append v [] ys = refl
 reading-append v (x ∷ xs) ys = reading-append (v * 10 + (x - 48)) xs ys
 
 -- a number's digits read back as the number
-pub decimal-reads : (n : ℕ) → reading 0 (decimal n) ≡ n
-unfolding decimal
+pub decimal-reads : DecimalReads
+unfolding decimalDigits
 decimal-reads n = digits-read (suc n) n (omega arith)
   where
     digits-read : (steps n : ℕ) → n < steps → reading 0 (digitsIn steps n) ≡ n
