@@ -1,10 +1,11 @@
-"""Writes what the program `known_answers` is to print, from the model of the archive rules alone.
+"""Writes what the program `known_answers` is to print, from the model of the archive rules and libcrypto alone.
 
     python3 tests/known_answers/make_expected.py > crates/known_answers/stdout
 
 One line a case, `CASE: jobs N` or `CASE: refused N`. The cases are document 01's plate readings that
 are not marked P: under a good key files of 19 bytes, of 20 bytes with layout 2, of 65,537 bytes, and
-archives of 64 and 65 jobs of no bytes.
+archives of 64 and 65 jobs of no bytes. Then a line an engine, `ENGINE, RFC 5794 A.1: HEX`: the
+appendix's block, encrypted.
 """
 
 import os
@@ -13,8 +14,10 @@ import sys
 sys.path.insert(0, os.path.join(os.path.dirname(os.path.abspath(__file__)), "..", "model"))
 
 import archive  # noqa: E402
+import libcrypto  # noqa: E402
 
 KEY = bytes(range(16))
+BLOCK = bytes(0x11 * i for i in range(16))
 
 
 def header(layout, count, length):
@@ -46,3 +49,5 @@ def answer(file):
 if __name__ == "__main__":
     for case, file in cases():
         print("%s: %s" % (case, answer(file)))
+    for engine in ("plain", "tables"):
+        print("%s, RFC 5794 A.1: %s" % (engine, libcrypto.forward(KEY, BLOCK).hex()))

@@ -4,14 +4,14 @@
 
 One line a case, `NAME HEX`, where NAME is words separated by single spaces:
 
-    aria-N PATH forward HEX       RFC 5794, A: the appendix's block encrypted under its N-bit key
-    aria-N PATH back HEX          the appendix's ciphertext decrypted
-    aria-N round-key I HEX        round key I of that key, I from 1
-    aria-N decryption-key I HEX   decryption key I of that key, I from 1
-    aria-2004-N PATH forward HEX  ARIA Test Vectors (2004), ECB: ten blocks encrypted
-    aria-2004-N PATH back HEX     the ten blocks' ciphertext decrypted
+    aria-N ENGINE forward HEX       RFC 5794, A: the appendix's block encrypted under its N-bit key
+    aria-N ENGINE back HEX          the appendix's ciphertext decrypted
+    aria-N round-key I HEX          round key I of that key, I from 1
+    aria-N decryption-key I HEX     decryption key I of that key, I from 1
+    aria-2004-N ENGINE forward HEX  ARIA Test Vectors (2004), ECB: ten blocks encrypted
+    aria-2004-N ENGINE back HEX     the ten blocks' ciphertext decrypted
 
-N is 128, 192, 256; PATH is plain, tables. HEX is lower case, without spaces. The lines come key by
+N is 128, 192, 256; ENGINE is plain, tables. HEX is lower case, without spaces. The lines come key by
 key: all `aria-N` lines of one N in the order above (plain forward, plain back, tables forward,
 tables back, round keys, decryption keys), then those of the next; then the `aria-2004-N` lines.
 
@@ -36,9 +36,9 @@ def block_lines(name, record):
     forward, back = libcrypto.forward(key, plain), libcrypto.back(key, sealed)
     if (forward, back) != (sealed, plain):
         sys.exit("libcrypto differs from %s" % record["origin"])
-    for path in ("plain", "tables"):
-        yield "%s %s forward %s" % (name, path, forward.hex())
-        yield "%s %s back %s" % (name, path, back.hex())
+    for engine in ("plain", "tables"):
+        yield "%s %s forward %s" % (name, engine, forward.hex())
+        yield "%s %s back %s" % (name, engine, back.hex())
 
 
 def key_lines(name, record):

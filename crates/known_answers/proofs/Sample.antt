@@ -2,31 +2,43 @@
 -- Assumes nothing.
 use mathlib.Core.Path.{_≡_, refl}
 use mathlib.Core.Bool.{true}
+use Rattle.refusals.specs.Cases.{firstOf, itemByItem}
+use Rattle.refusals.specs.Shared.{goodKey, keyCases}
+use Rattle.octets.specs.Equality.{sameBytes}
+use Rattle.octets.specs.Below.{firstIndex, allBelow}
 use Rattle.blocks.specs.Xor.{xorBlock}
-use Rattle.blocks.specs.Parts.{blockOf}
+use Rattle.blocks.specs.Blocks.{blockOf, row}
 use Rattle.boxes.specs.Boxes.{s1, s2, s3, s4, boxes, boxBy, box}
 use Rattle.boxes.specs.Layers.{layerFrom}
 use Rattle.diffusion.specs.Diffusion.{rows, xorAt, byRows, diffusion}
-use Rattle.rounds.specs.Circuit.{keyAt, oddRound, evenRound, lastRound, rounds, circuit, aria}
-use Rattle.rotation.specs.Rotation.{followedBy, numberOf, bytesOf, rotateRight, rotateLeft}
-use Rattle.schedule.specs.Outcomes.{goodKey, goodRounds}
-use Rattle.schedule.specs.KeySchedule.{c1, c2, c3, constantsFor, roundsFor, keysFor, wordsBy, wordsOf, four, encryptionKeys, inRow, keyBytes, roundKeys, scheduleOf}
+use Rattle.rotation.specs.Rotation.{followedBy, asNumber, asBlock, rotateRight, rotateLeft}
+use Rattle.circuit.specs.Circuit.{keyAt, oddRound, evenRound, lastRound, rounds, circuit, aria}
+use Rattle.expansion.specs.KeySchedule.{c1, c2, c3, constantsFor, roundsFor, keysFor, wordsBy, wordsOf, four, encryptionKeys, keyBytes}
+use Rattle.expansion.specs.KeySchedule.{scheduleFor, scheduleOf}
 use Rattle.ctr.specs.Counter.{counterBlock, keystream, addStream}
-use Rattle.format.specs.Bytes.{sameBytes}
-use Rattle.format.specs.Cases.{firstOf, itemByItem, firstIndex, allBelow}
-use Rattle.directory.specs.Entries.{entryAt, digits, isJobNumber, orderOf}
+use Rattle.header.specs.Fields.{countOf, archiveNumber, directoryOf}
+use Rattle.header.specs.Cases.{frontCases, fieldCases, headerCases}
+use Rattle.directory.specs.Entries.{entryAt}
+use Rattle.jobnumber.specs.Number.{digits, isJobNumber, orderOf}
 use Rattle.directory.specs.Check.{bodyFrom, ascends, entryCases, restCases, directoryCases}
 use Rattle.directory.specs.Search.{bears, indexOf, searchCases}
-use Rattle.archive.specs.Header.{countOf, archiveNumber, keyCheck, contentsOf}
-use Rattle.archive.specs.Check.{keyCases, headerCases, fileCases, checkCases}
+use Rattle.archive.specs.Check.{keyCheck, fileCases, checkCases}
 use Rattle.archive.specs.Find.{bodyAt}
 use Rattle.archive.specs.Open.{prefixOf, underKeystream}
-use Rattle.listing.specs.Decimal.{digitsIn, decimal}
+use Rattle.listing.specs.Decimal.{digitsIn, decimalDigits}
 use Rattle.listing.specs.Text.{field, numberLine, jobLine, jobLines, textOf}
 use Rattle.known_answers.specs.Readings.{every, job24000017}
 use Rattle.known_answers.specs.Vectors.{rfcKey}
 use Rattle.known_answers.specs.Sample.{sampleFile, sampleText, samplePlain, sampleReadings}
 
 pub sample-holds : every sampleReadings ≡ true
-unfolding xorBlock blockOf s1 s2 s3 s4 boxes boxBy box layerFrom rows xorAt byRows diffusion keyAt oddRound evenRound lastRound rounds circuit aria followedBy numberOf bytesOf rotateRight rotateLeft goodKey goodRounds c1 c2 c3 constantsFor roundsFor keysFor wordsBy wordsOf four encryptionKeys inRow keyBytes roundKeys scheduleOf sameBytes every rfcKey counterBlock keystream addStream firstOf itemByItem firstIndex allBelow entryAt digits isJobNumber orderOf bodyFrom ascends entryCases restCases directoryCases bears indexOf searchCases countOf archiveNumber keyCheck contentsOf keyCases headerCases fileCases checkCases bodyAt prefixOf underKeystream digitsIn decimal field numberLine jobLine jobLines textOf job24000017 sampleFile sampleText samplePlain sampleReadings
+unfolding every job24000017 rfcKey sampleFile sampleText samplePlain sampleReadings
+    firstOf itemByItem goodKey keyCases sameBytes firstIndex allBelow xorBlock blockOf row
+    s1 s2 s3 s4 boxes boxBy box layerFrom rows xorAt byRows diffusion followedBy asNumber asBlock rotateRight rotateLeft
+    keyAt oddRound evenRound lastRound rounds circuit aria
+    c1 c2 c3 constantsFor roundsFor keysFor wordsBy wordsOf four encryptionKeys keyBytes scheduleFor scheduleOf
+    counterBlock keystream addStream countOf archiveNumber directoryOf frontCases fieldCases headerCases
+    entryAt digits isJobNumber orderOf bodyFrom ascends entryCases restCases directoryCases bears indexOf searchCases
+    keyCheck fileCases checkCases bodyAt prefixOf underKeystream
+    digitsIn decimalDigits field numberLine jobLine jobLines textOf
 sample-holds = refl

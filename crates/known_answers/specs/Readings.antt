@@ -6,15 +6,17 @@ use mathlib.Core.List.{List, [], _∷_, _++_}
 use Prim.Native.Nat.{ℕ}
 use lib.Dec.{eqb}
 use lib.ListN.{replicate}
-use Rattle.blocks.specs.Tables.{values}
+use Rattle.refusals.specs.Cases.{firstOf}
+use Rattle.refusals.specs.Shared.{keyCases}
+use Rattle.octets.specs.Equality.{sameBytes}
+use Rattle.octets.specs.Tables.{values}
 use Rattle.boxes.specs.Boxes.{box}
 use Rattle.diffusion.specs.Diffusion.{diffusion}
-use Rattle.rotation.specs.Rotation.{numberOf, _>>>_, _<<<_}
-use Rattle.schedule.specs.Outcomes.{keyNumber}
-use Rattle.schedule.specs.Run.{runNumber}
-use Rattle.aria.specs.KeyRun.{keyRunNumber}
+use Rattle.rotation.specs.Rotation.{asNumber, _>>>_, _<<<_}
+use Rattle.circuit.specs.Run.{runNumber}
+use Rattle.keyed.specs.KeyRun.{keyRunNumber}
 use Rattle.ctr.specs.Counter.{counterBlock}
-use Rattle.format.specs.Bytes.{sameBytes}
+use Rattle.header.specs.Fields.{archiveNumber}
 use Rattle.archive.specs.Open.{prefixOf}
 
 -- every test of a list passes
@@ -49,7 +51,7 @@ equalBytesReadings = values (λ (x : ℕ). sameBytes (diffusion (replicate 16 x)
 -- "The number 1 rotated right by 19: byte 2 is `20`. Left by 61: byte 8 is `20`"
 unfoldable pub rotationReadings : List Bool
 rotationReadings =
-    eqb (numberOf (blockWith 0x01 (15 ∷ []))) 1
+    eqb (asNumber (blockWith 0x01 (15 ∷ []))) 1
     ∷ sameBytes (blockWith 0x01 (15 ∷ []) >>> 19) (blockWith 0x20 (2 ∷ []))
     ∷ sameBytes (blockWith 0x01 (15 ∷ []) <<< 61) (blockWith 0x20 (8 ∷ []))
     ∷ []
@@ -64,7 +66,7 @@ job24000017 = 0x32 ∷ 0x34 ∷ 0x30 ∷ 0x30 ∷ 0x30 ∷ 0x30 ∷ 0x31 ∷ 0x3
 -- "Counter block 0 of job 24000017, archive 7: `00000007323430303030313700000000`"
 unfoldable pub counterReadings : List Bool
 counterReadings =
-    sameBytes (counterBlock (prefixOf archive7 job24000017) 0)
+    sameBytes (counterBlock (prefixOf (archiveNumber archive7) job24000017) 0)
     (0x00 ∷ 0x00 ∷ 0x00 ∷ 0x07 ∷ 0x32 ∷ 0x34 ∷ 0x30 ∷ 0x30 ∷ 0x30 ∷ 0x30 ∷ 0x31 ∷ 0x37 ∷ 0x00 ∷ 0x00 ∷ 0x00 ∷ 0x00 ∷ [])
     ∷ []
 
@@ -99,8 +101,8 @@ keyRunReadings =
 -- "Keys of 15 and 17 bytes: 1", in key preparation, and in a run of 0, 8 or 16 bytes, forward and back
 unfoldable pub keyReadings : List Bool
 keyReadings =
-    eqb (keyNumber 15) 1
-    ∷ eqb (keyNumber 17) 1
+    eqb (firstOf (keyCases 15)) 1
+    ∷ eqb (firstOf (keyCases 17)) 1
     ∷ eqb (keyRunNumber 15 0 0) 1
     ∷ eqb (keyRunNumber 17 0 0) 1
     ∷ eqb (keyRunNumber 15 1 8) 1

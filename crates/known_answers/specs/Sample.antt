@@ -4,9 +4,9 @@
 use mathlib.Core.Bool.{Bool}
 use mathlib.Core.List.{List, [], _∷_}
 use Prim.Native.Nat.{ℕ}
-use Rattle.schedule.specs.KeySchedule.{scheduleOf}
-use Rattle.format.specs.Bytes.{sameBytes}
-use Rattle.archive.specs.Open.{underKeystream, bodyOf}
+use Rattle.octets.specs.Equality.{sameBytes}
+use Rattle.expansion.specs.KeySchedule.{scheduleOf}
+use Rattle.archive.specs.Open.{plainOf}
 use Rattle.listing.specs.Listing.{listingText}
 use Rattle.known_answers.specs.Readings.{job24000017}
 use Rattle.known_answers.specs.Vectors.{rfcKey}
@@ -35,5 +35,5 @@ samplePlain = 0x64 ∷ 0x72 ∷ 0x69 ∷ 0x65 ∷ 0x64 ∷ []
 unfoldable pub sampleReadings : List Bool
 sampleReadings =
     sameBytes (listingText (rfcKey 16) sampleFile) sampleText
-    ∷ sameBytes (underKeystream (scheduleOf (rfcKey 16)) sampleFile job24000017 (bodyOf sampleFile job24000017)) samplePlain
+    ∷ sameBytes (plainOf (scheduleOf (rfcKey 16)) sampleFile job24000017) samplePlain
     ∷ []

@@ -4,11 +4,11 @@
 use mathlib.Core.Bool.{Bool}
 use mathlib.Core.List.{List, [], _∷_, _++_}
 use Prim.Native.Nat.{ℕ, _*_}
-use Rattle.blocks.specs.Tables.{values}
-use Rattle.schedule.specs.Run.{encrypted}
-use Rattle.schedule.specs.KeySchedule.{scheduleOf}
-use Rattle.schedule.specs.Decryption.{decryptionOf}
-use Rattle.format.specs.Bytes.{sameBytes}
+use Rattle.octets.specs.Equality.{sameBytes}
+use Rattle.octets.specs.Tables.{values}
+use Rattle.circuit.specs.Run.{encrypted}
+use Rattle.expansion.specs.KeySchedule.{scheduleOf}
+use Rattle.expansion.specs.Decryption.{decryptionOf}
 
 -- the keys of A.1 to A.3, the first n bytes of 00 01 02 ..
 unfoldable pub rfcKey : ℕ → List ℕ

@@ -1,8 +1,11 @@
 // Runs the readings of 01, Plate readings, that are not marked P: files on both sides of the limits of checking, under a good key, each
-// good but for what its line names. Prints what checking answered; tests/known_answers/make_expected.py makes the stored output from the
-// model of the archive. The readings marked P are the one theorem of proofs/Readings.
+// good but for what its line names. Prints what checking answered. Then runs the block of RFC 5794, A.1, by each engine as
+// `roundtrip::run_by` picks it. tests/known_answers/make_expected.py makes the stored output from the model of the archive and from
+// libcrypto. The readings marked P are the one theorem of proofs/Readings.
 use archive::Checked;
+use expansion::Outcome;
 use libc::STDOUT_FILENO;
+use roundtrip::Engine;
 
 // The key of RFC 5794, A.1.
 const KEY: [u8; 16] = [0, 1, 2, 3, 4, 5, 6, 7, 8, 9, 10, 11, 12, 13, 14, 15];
@@ -133,10 +136,57 @@ fn count_65() {
     print_check(b"count 65: ", &file[0..1060]);
 }
 
+// The plain block of RFC 5794, appendix A.
+fn rfc_block() -> [u8; 16] {
+    [
+        0x00,
+        0x11,
+        0x22,
+        0x33,
+        0x44,
+        0x55,
+        0x66,
+        0x77,
+        0x88,
+        0x99,
+        0xaa,
+        0xbb,
+        0xcc,
+        0xdd,
+        0xee,
+        0xff,
+    ]
+}
+
+fn print_word(block: [u8; 16], at: u8) {
+    let word = octets::u32_at(&block, at);
+    io::print_hex(STDOUT_FILENO, word as u64, 8);
+}
+
+// A line: the engine, and what it makes of the block under the schedule of the key.
+fn print_run(case: &[u8], engine: Engine) {
+    let key = KEY;
+    let prepared = preparation::prepare(&key);
+    let outcome = prepared.outcome;
+    let Outcome::Ready = outcome else {
+        return;
+    };
+    let mut block = rfc_block();
+    roundtrip::run_by(engine, prepared.schedule, &mut block);
+    print(case);
+    print_word(block, 0);
+    print_word(block, 4);
+    print_word(block, 8);
+    print_word(block, 12);
+    print(b"\n");
+}
+
 fn main() {
     short_file();
     layout_2();
     long_file();
     count_64();
     count_65();
+    print_run(b"plain, RFC 5794 A.1: ", Engine::Plain);
+    print_run(b"tables, RFC 5794 A.1: ", Engine::Tables);
 }

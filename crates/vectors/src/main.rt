@@ -1,9 +1,9 @@
 // Runs the published vectors of ARIA by both engines, forward and back, and prints the bytes that it got: those of RFC 5794, appendix A,
 // with the round keys and decryption round keys of its three keys, and the ARIA test vectors of 2004. The stored output is another
 // implementation's; tests/vectors/make_expected.py makes it, and says what a line is.
+use circuit::Schedule;
+use expansion::Outcome;
 use libc::STDOUT_FILENO;
-use schedule::Outcome;
-use schedule::Schedule;
 
 // The key of RFC 5794, A.3; those of A.1 and A.2 are its first 16 and 24 bytes.
 const RFC_KEY: [u8; 32] = [
@@ -152,7 +152,7 @@ fn print_keys(name: &[u8], case: &[u8], s: Schedule, n: usize) {
     let keys = s.keys;
     let mut i: usize = 0;
     while i < n {
-        let key = rounds::round_key(&keys, i);
+        let key = circuit::round_key(&keys, i);
         i += 1;
         print_key(name, case, i as u64, key);
     }
@@ -160,14 +160,14 @@ fn print_keys(name: &[u8], case: &[u8], s: Schedule, n: usize) {
 
 // The n round keys of a key, and its decryption round keys.
 fn key_lines(name: &[u8], key: &[u8], n: usize) {
-    let prepared = schedule::prepare(key);
+    let prepared = preparation::prepare(key);
     let outcome = prepared.outcome;
     let Outcome::Ready = outcome else {
         return;
     };
     let s = prepared.schedule;
     print_keys(name, b" round-key ", s, n);
-    let reversed = schedule::decryption_schedule(s);
+    let reversed = expansion::decryption_schedule(s);
     let t = reversed.schedule;
     print_keys(name, b" decryption-key ", t, n);
 }

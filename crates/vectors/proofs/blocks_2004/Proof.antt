@@ -36,4 +36,5 @@ returns : tie.Need-returns Inv-loop μ-loop
 returns c = search needs
 
 pub blocks-2004-spec : {M : Type 1} → statement M
-blocks-2004-spec = tie.close (tie.spec Inv-loop μ-loop loop-holds byte-2004-requires cast-out array-write-out add-j loop-less loop-again returns)
+blocks-2004-spec =
+    tie.close (tie.spec Inv-loop μ-loop loop-holds byte-2004-requires cast-out array-write-out add-j loop-less loop-again returns)
