@@ -1,4 +1,5 @@
-//! Links the proved library, which `rt staticlib aria` writes at the repository's top.
+//! Links the proved library, which `rt staticlib aria` writes at the repository's top, and tells the
+//! bench whether its own, which `rt staticlib benchlib` writes, is there too.
 
 use std::env;
 use std::path::PathBuf;
@@ -13,7 +14,7 @@ fn main() {
     let library = folder.join("libaria.a");
 
     println!("cargo:rerun-if-changed=build.rs");
-    println!("cargo:rerun-if-changed={}", library.display());
+    println!("cargo:rerun-if-changed={}", folder.display());
     if !library.exists() {
         eprintln!("{} is missing.", library.display());
         eprintln!("Run `rt staticlib aria` in {} first.", top.display());
@@ -21,4 +22,9 @@ fn main() {
     }
     println!("cargo:rustc-link-search=native={}", folder.display());
     println!("cargo:rustc-link-lib=static=aria");
+
+    let bench = folder.join("libbenchlib.a");
+    if bench.exists() {
+        println!("cargo:rustc-env=ARIA_BENCHLIB={}", bench.display());
+    }
 }

@@ -1,8 +1,12 @@
-//! Speed of both paths and of libcrypto's ARIA-ECB, side by side: `cargo bench`.
+//! Speed of both engines and of libcrypto's ARIA, side by side: `cargo bench`.
+//!
+//! Block runs are those of the package. Counter mode is not among its calls, so it comes from a library
+//! for this bench alone, which `rt staticlib benchlib` writes.
 //!
 //! Each figure is the best of several rounds, the engines taking turns within a round so that a slow
-//! spell of the machine meets all three. Time is the thread's CPU time. Every call prepares its key,
-//! libcrypto's too. Keys are 16 bytes. It measures and asserts nothing about time.
+//! spell of the machine meets all of them. Time is the thread's CPU time. Every call prepares its key,
+//! libcrypto's too. Keys are 16 bytes. Before a row is measured all must give the same bytes. It
+//! asserts nothing about time.
 
 #[path = "../tests/support/libcrypto.rs"]
 mod libcrypto;
@@ -10,12 +14,34 @@ mod libcrypto;
 use std::ffi::{c_int, c_long};
 use std::fs;
 
-use aria_host::{run, Direction, Path};
-use libcrypto::Ecb;
+use aria_host::{run, Direction, Engine};
+use libcrypto::{Ctr, Ecb};
 
-const ROUNDS: usize = 9;
-const BYTES_PER_MEASUREMENT: usize = 4 << 20;
+const ROUNDS: usize = 60;
+const BYTES_PER_MEASUREMENT: usize = 1 << 20;
+/// Shorter runs count as this many bytes: most of their time goes into the key.
+const BYTES_AT_LEAST: usize = 256;
 const KEY: [u8; 16] = *b"sixteen key byte";
+const PREFIX: [u8; 12] = *b"twelve bytes";
+
+/// build.rs sets it where the library is there.
+const _: &str = env!(
+    "ARIA_BENCHLIB",
+    "target/staticlib/libbenchlib.a is missing: run `rt staticlib benchlib` at the repository's top first"
+);
+
+#[link(name = "benchlib", kind = "static")]
+extern "C" {
+    /// Counter mode on the run in place: 0, or 1 for a key of a wrong length.
+    fn bench_ctr(
+        key: *const u8,
+        key_len: usize,
+        prefix: *const u8,
+        prefix_len: usize,
+        run: *mut u8,
+        run_len: usize,
+    ) -> u32;
+}
 
 #[repr(C)]
 struct Timespec {
@@ -42,19 +68,74 @@ fn thread_seconds() -> f64 {
     time.seconds as f64 + time.nanoseconds as f64 * 1e-9
 }
 
-/// MB/s (10^6 bytes) of `work` on a buffer of `size` bytes.
-fn measured(size: usize, buffer: &mut [u8], mut work: impl FnMut(&mut [u8])) -> f64 {
-    let calls = BYTES_PER_MEASUREMENT / size;
+/// What is measured: it processes a run in place.
+type Work<'a> = Box<dyn FnMut(&mut [u8]) + 'a>;
+
+/// MB/s (10^6 bytes) of `work` on a run, many times over.
+fn measured(run: &mut [u8], work: &mut Work) -> f64 {
+    let calls = BYTES_PER_MEASUREMENT / run.len().max(BYTES_AT_LEAST);
     let before = thread_seconds();
     for _ in 0..calls {
-        work(&mut buffer[..size]);
+        work(run);
     }
     let seconds = thread_seconds() - before;
-    (calls * size) as f64 / seconds / 1e6
+    (calls * run.len()) as f64 / seconds / 1e6
 }
 
-fn ours(path: Path, direction: Direction) -> impl FnMut(&mut [u8]) {
-    move |bytes| run(path, &KEY, direction, bytes).expect("a whole number of blocks")
+/// The best of each over all rounds, once all have given the same bytes.
+fn compared<const N: usize>(run: &mut [u8], mut works: [Work; N]) -> [f64; N] {
+    let results = works.iter_mut().map(|work| {
+        let mut bytes = run.to_vec();
+        work(&mut bytes);
+        bytes
+    });
+    let results: Vec<Vec<u8>> = results.collect();
+    assert!(
+        results.iter().all(|bytes| *bytes == results[0]),
+        "other bytes on a run of {} bytes",
+        run.len()
+    );
+    let mut best = [0f64; N];
+    for _ in 0..ROUNDS {
+        for (figure, work) in best.iter_mut().zip(&mut works) {
+            *figure = figure.max(measured(run, work));
+        }
+    }
+    best
+}
+
+fn blocks_by<'a>(engine: Engine, direction: Direction) -> Work<'a> {
+    Box::new(move |bytes| run(engine, &KEY, direction, bytes).expect("a whole number of blocks"))
+}
+
+fn blocks_by_libcrypto<'a>(direction: Direction) -> Work<'a> {
+    let mut ecb = Ecb::new(KEY.len(), direction);
+    Box::new(move |bytes| ecb.run(&KEY, bytes))
+}
+
+fn counter_mode<'a>() -> Work<'a> {
+    Box::new(|bytes| {
+        // SAFETY: the slices are valid for their lengths, and a mutable borrow overlaps no other. The
+        // function has no `requires`: it is proved safe for every key, prefix and run.
+        let number = unsafe {
+            bench_ctr(
+                KEY.as_ptr(),
+                KEY.len(),
+                PREFIX.as_ptr(),
+                PREFIX.len(),
+                bytes.as_mut_ptr(),
+                bytes.len(),
+            )
+        };
+        assert_eq!(number, 0, "bench_ctr");
+    })
+}
+
+fn counter_mode_by_libcrypto<'a>() -> Work<'a> {
+    let mut ctr = Ctr::new(KEY.len());
+    let mut first = [0; 16];
+    first[..PREFIX.len()].copy_from_slice(&PREFIX);
+    Box::new(move |bytes| ctr.run(&KEY, &first, bytes))
 }
 
 /// The processor's name, as Linux gives it.
@@ -68,33 +149,55 @@ fn processor() -> String {
         })
 }
 
-fn main() {
-    // Filled before the clock runs, so that no page is touched first inside a measurement.
-    let mut buffer: Vec<u8> = (0..1 << 20).map(|i: u32| (i % 251) as u8).collect();
-
-    // A second of work first: without it the first row came out lower for the plain path. Why was not looked into.
-    while thread_seconds() < 1.0 {
-        ours(Path::Plain, Direction::Forward)(&mut buffer);
-    }
-
-    println!("{}; {}", processor(), libcrypto::version());
-    println!("ARIA-ECB, 16-byte key, MB/s of thread CPU time, best of {ROUNDS} rounds");
-    println!("size    direction    plain   tables  libcrypto  plain/lib  tables/lib");
-    for (name, size) in [("16 KiB", 16 << 10), ("1 MiB", 1 << 20)] {
+fn block_runs(buffer: &mut [u8]) {
+    println!("ARIA-ECB    direction    plain   tables  libcrypto  plain/lib  tables/lib");
+    let sizes = [
+        ("16 bytes", 16),
+        ("64 bytes", 64),
+        ("256 bytes", 256),
+        ("16 KiB", 16 << 10),
+        ("1 MiB", 1 << 20),
+    ];
+    for (name, size) in sizes {
         for direction in Direction::ALL {
-            let mut theirs = Ecb::new(KEY.len(), direction);
-            let (mut plain, mut tables, mut lib) = (0f64, 0f64, 0f64);
-            for _ in 0..ROUNDS {
-                plain = plain.max(measured(size, &mut buffer, ours(Path::Plain, direction)));
-                tables = tables.max(measured(size, &mut buffer, ours(Path::Tables, direction)));
-                lib = lib.max(measured(size, &mut buffer, |b| theirs.run(&KEY, b)));
-            }
+            let works = [
+                blocks_by(Engine::Plain, direction),
+                blocks_by(Engine::Tables, direction),
+                blocks_by_libcrypto(direction),
+            ];
+            let [plain, tables, lib] = compared(&mut buffer[..size], works);
             println!(
-                "{name:<7} {:<9} {plain:>8.1} {tables:>8.1} {lib:>10.1} {:>10.2} {:>11.2}",
+                "{name:<11} {:<9} {plain:>8.1} {tables:>8.1} {lib:>10.1} {:>10.2} {:>11.2}",
                 format!("{direction:?}").to_lowercase(),
                 plain / lib,
                 tables / lib
             );
         }
     }
+}
+
+fn counter_runs(buffer: &mut [u8]) {
+    println!("ARIA-CTR                       tables  libcrypto             tables/lib");
+    let works = [counter_mode(), counter_mode_by_libcrypto()];
+    let [tables, lib] = compared(&mut buffer[..64 << 10], works);
+    println!("64 KiB {tables:>30.1} {lib:>10.1} {:>22.2}", tables / lib);
+}
+
+fn main() {
+    // Filled before the clock runs, so that no page is touched first inside a measurement.
+    let mut buffer: Vec<u8> = (0..1 << 20).map(|i: u32| (i % 251) as u8).collect();
+
+    // A second of work first: without it the first row came out lower for the plain engine. Why was not
+    // looked into.
+    let mut first = blocks_by(Engine::Plain, Direction::Forward);
+    while thread_seconds() < 1.0 {
+        first(&mut buffer);
+    }
+
+    println!("{}; {}", processor(), libcrypto::version());
+    println!(
+        "16-byte key, prepared in every call; MB/s of thread CPU time, best of {ROUNDS} rounds"
+    );
+    block_runs(&mut buffer);
+    counter_runs(&mut buffer);
 }

@@ -1,29 +1,29 @@
 //! ARIA (RFC 5794) on runs of blocks: a safe wrapper of the proved library `libaria.a`.
 //!
 //! [`run`] encrypts or decrypts every 16-byte block of a run in place, each on its own (ECB). Keys
-//! are 16, 24 or 32 bytes long. A mode of operation is the caller's affair.
+//! are 16, 24 or 32 bytes long. The mode of operation is for the caller to choose.
 //!
 //! ```
-//! use aria_host::{run, Direction, Path, Refusal};
+//! use aria_host::{run, Direction, Engine, Refusal};
 //!
 //! // RFC 5794, A.1.
 //! let key: Vec<u8> = (0x00..=0x0f).collect();
 //! let mut block: Vec<u8> = (0x0..=0xf).map(|digit| digit * 0x11).collect();
 //!
-//! run(Path::Tables, &key, Direction::Forward, &mut block)?;
+//! run(Engine::Tables, &key, Direction::Forward, &mut block)?;
 //! assert_eq!(block[..4], [0xd7, 0x18, 0xfb, 0xd6]);
 //!
-//! run(Path::Plain, &key, Direction::Back, &mut block)?;
+//! run(Engine::Plain, &key, Direction::Back, &mut block)?;
 //! assert_eq!(block[..4], [0x00, 0x11, 0x22, 0x33]);
 //!
-//! let refusal = run(Path::Tables, &key[..15], Direction::Forward, &mut block).unwrap_err();
+//! let refusal = run(Engine::Tables, &key[..15], Direction::Forward, &mut block).unwrap_err();
 //! assert_eq!(refusal, Refusal::KeyLength);
 //! assert_eq!(refusal.to_string(), "refused 1: the key is not 16, 24 or 32 bytes long");
 //! # Ok::<(), Refusal>(())
 //! ```
 //!
 //! What is proved is the library. Nothing checks this wrapper's declarations of its functions, which
-//! is why the tests compare both paths with another implementation on many inputs.
+//! is why the tests compare both engines with another implementation on many inputs.
 
 use std::error::Error;
 use std::fmt;
@@ -58,16 +58,16 @@ mod ffi {
 
 /// Which of the two proved engines does the work. Both give the same bytes and the same answers.
 #[derive(Clone, Copy, Debug, PartialEq, Eq, Hash)]
-pub enum Path {
+pub enum Engine {
     /// Byte boxes, and the diffusion layer byte by byte.
     Plain,
     /// Tables of 32-bit words; the faster one.
     Tables,
 }
 
-impl Path {
-    /// Both paths, for code that compares them.
-    pub const ALL: [Path; 2] = [Path::Plain, Path::Tables];
+impl Engine {
+    /// Both engines, for code that compares them.
+    pub const ALL: [Engine; 2] = [Engine::Plain, Engine::Tables];
 }
 
 /// Encryption or decryption.
@@ -134,8 +134,8 @@ impl Error for Refusal {}
 ///
 /// Refused with the first that applies: [`Refusal::KeyLength`], [`Refusal::RunLength`]. An empty run
 /// is accepted.
-pub fn run(path: Path, key: &[u8], direction: Direction, run: &mut [u8]) -> Result<(), Refusal> {
-    run_numbered(path, key, direction.number(), run)
+pub fn run(engine: Engine, key: &[u8], direction: Direction, run: &mut [u8]) -> Result<(), Refusal> {
+    run_numbered(engine, key, direction.number(), run)
 }
 
 /// As [`run`], with the direction as the library takes it: 0 forward, 1 back, and any other number
@@ -143,8 +143,8 @@ pub fn run(path: Path, key: &[u8], direction: Direction, run: &mut [u8]) -> Resu
 ///
 /// For callers that hold a direction number they have not looked at, and for tests of the order of
 /// refusals.
-pub fn run_numbered(path: Path, key: &[u8], direction: u32, run: &mut [u8]) -> Result<(), Refusal> {
-    match answer(path, key, direction, run) {
+pub fn run_numbered(engine: Engine, key: &[u8], direction: u32, run: &mut [u8]) -> Result<(), Refusal> {
+    match answer(engine, key, direction, run) {
         0 => Ok(()),
         1 => Err(Refusal::KeyLength),
         2 => Err(Refusal::Direction),
@@ -153,10 +153,10 @@ pub fn run_numbered(path: Path, key: &[u8], direction: u32, run: &mut [u8]) -> R
     }
 }
 
-fn answer(path: Path, key: &[u8], direction: u32, run: &mut [u8]) -> u32 {
-    let block_run: ffi::BlockRun = match path {
-        Path::Plain => ffi::aria_run_plain,
-        Path::Tables => ffi::aria_run_tables,
+fn answer(engine: Engine, key: &[u8], direction: u32, run: &mut [u8]) -> u32 {
+    let block_run: ffi::BlockRun = match engine {
+        Engine::Plain => ffi::aria_run_plain,
+        Engine::Tables => ffi::aria_run_tables,
     };
     // SAFETY: both slices are valid for their lengths, and a mutable borrow overlaps no other. The
     // library's functions have no `requires`: they are proved safe for every key, direction and run.

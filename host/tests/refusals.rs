@@ -2,7 +2,7 @@
 
 mod support;
 
-use aria_host::{run, run_numbered, Direction, Path, Refusal};
+use aria_host::{run, run_numbered, Direction, Engine, Refusal};
 use support::{Guarded, Random};
 
 const DIRECTIONS: [u32; 7] = [0, 1, 2, 3, 4, 5, u32::MAX];
@@ -20,12 +20,12 @@ fn expected(key_len: usize, direction: u32, run_len: usize) -> Result<(), Refusa
     }
 }
 
-fn try_call(path: Path, key: &[u8], direction: u32, input: &[u8]) {
+fn try_call(engine: Engine, key: &[u8], direction: u32, input: &[u8]) {
     let mut lent = Guarded::new(input, 0);
-    let answer = run_numbered(path, key, direction, lent.content_mut());
+    let answer = run_numbered(engine, key, direction, lent.content_mut());
 
     let case = format!(
-        "{path:?}, key of {} bytes, direction {direction}, run of {} bytes",
+        "{engine:?}, key of {} bytes, direction {direction}, run of {} bytes",
         key.len(),
         input.len()
     );
@@ -45,13 +45,13 @@ fn try_call(path: Path, key: &[u8], direction: u32, input: &[u8]) {
 #[test]
 fn every_key_length_direction_and_some_run_lengths() {
     let mut random = Random::seeded("every_key_length_direction_and_some_run_lengths");
-    for path in Path::ALL {
+    for engine in Engine::ALL {
         for key_len in 0..=64 {
             for direction in DIRECTIONS {
                 for run_len in [0, 1, 8, 15, 16, 17, 31, 32, 33] {
                     let key = random.bytes(key_len);
                     let input = random.bytes(run_len);
-                    try_call(path, &key, direction, &input);
+                    try_call(engine, &key, direction, &input);
                 }
             }
         }
@@ -61,13 +61,13 @@ fn every_key_length_direction_and_some_run_lengths() {
 #[test]
 fn every_run_length_to_five_blocks() {
     let mut random = Random::seeded("every_run_length_to_five_blocks");
-    for path in Path::ALL {
+    for engine in Engine::ALL {
         for key_len in [16, 24, 32] {
             for direction in DIRECTIONS {
                 for run_len in 0..=80 {
                     let key = random.bytes(key_len);
                     let input = random.bytes(run_len);
-                    try_call(path, &key, direction, &input);
+                    try_call(engine, &key, direction, &input);
                 }
             }
         }
@@ -76,28 +76,28 @@ fn every_run_length_to_five_blocks() {
 
 #[test]
 fn directions_with_one_bit_set() {
-    for path in Path::ALL {
+    for engine in Engine::ALL {
         for bit in 0..32 {
-            try_call(path, &[0x3c; 16], 1 << bit, &[0x5a; 48]);
+            try_call(engine, &[0x3c; 16], 1 << bit, &[0x5a; 48]);
         }
     }
 }
 
 #[test]
 fn the_typed_call_refuses_alike() {
-    for path in Path::ALL {
+    for engine in Engine::ALL {
         for direction in Direction::ALL {
             let mut bytes = [0x5a; 40];
             assert_eq!(
-                run(path, &[0; 15], direction, &mut bytes),
+                run(engine, &[0; 15], direction, &mut bytes),
                 Err(Refusal::KeyLength)
             );
             assert_eq!(
-                run(path, &[0; 16], direction, &mut bytes),
+                run(engine, &[0; 16], direction, &mut bytes),
                 Err(Refusal::RunLength)
             );
             assert_eq!(bytes, [0x5a; 40]);
-            assert_eq!(run(path, &[0; 16], direction, &mut []), Ok(()));
+            assert_eq!(run(engine, &[0; 16], direction, &mut []), Ok(()));
         }
     }
 }

@@ -1,10 +1,10 @@
-//! The published vectors of `tests/data/aria-ecb.txt`, by both paths, forward and back.
+//! The published vectors of `tests/data/aria-ecb.txt`, by both engines, forward and back.
 
 mod support;
 
 use std::collections::HashMap;
 
-use aria_host::{run, Direction, Path};
+use aria_host::{run, Direction, Engine};
 use support::libcrypto::Ecb;
 
 const VECTORS: &str = include_str!("../../tests/data/aria-ecb.txt");
@@ -52,14 +52,14 @@ fn the_file_has_each_key_length_of_both_origins() {
 }
 
 #[test]
-fn both_paths_give_the_published_bytes() {
+fn both_engines_give_the_published_bytes() {
     for v in vectors() {
-        for path in Path::ALL {
+        for engine in Engine::ALL {
             let mut bytes = v.plain.clone();
-            assert_eq!(run(path, &v.key, Direction::Forward, &mut bytes), Ok(()));
-            assert_eq!(bytes, v.sealed, "{}, {path:?} forward", v.origin);
-            assert_eq!(run(path, &v.key, Direction::Back, &mut bytes), Ok(()));
-            assert_eq!(bytes, v.plain, "{}, {path:?} back", v.origin);
+            assert_eq!(run(engine, &v.key, Direction::Forward, &mut bytes), Ok(()));
+            assert_eq!(bytes, v.sealed, "{}, {engine:?} forward", v.origin);
+            assert_eq!(run(engine, &v.key, Direction::Back, &mut bytes), Ok(()));
+            assert_eq!(bytes, v.plain, "{}, {engine:?} back", v.origin);
         }
     }
 }

@@ -1,5 +1,5 @@
-//! ARIA-ECB of OpenSSL's libcrypto, the implementation of other origin. The library itself does not
-//! link it: only the tests and the bench do.
+//! ARIA-ECB and ARIA-CTR of OpenSSL's libcrypto, the implementation of other origin. The library itself
+//! does not link it: only the tests and the bench do.
 
 use std::ffi::{c_char, c_int, c_uchar, c_void, CStr};
 use std::ptr;
@@ -12,6 +12,9 @@ extern "C" {
     fn EVP_aria_128_ecb() -> *const c_void;
     fn EVP_aria_192_ecb() -> *const c_void;
     fn EVP_aria_256_ecb() -> *const c_void;
+    fn EVP_aria_128_ctr() -> *const c_void;
+    fn EVP_aria_192_ctr() -> *const c_void;
+    fn EVP_aria_256_ctr() -> *const c_void;
     fn EVP_CIPHER_CTX_new() -> *mut c_void;
     fn EVP_CIPHER_CTX_free(context: *mut c_void);
     fn EVP_CIPHER_CTX_set_padding(context: *mut c_void, padding: c_int) -> c_int;
@@ -39,24 +42,26 @@ pub fn version() -> String {
     text.to_string_lossy().into_owned()
 }
 
-/// ARIA-ECB in one direction, for keys of one length.
-pub struct Ecb {
+/// A cipher of libcrypto in one direction, for keys of one length.
+struct Cipher {
     context: *mut c_void,
     key_len: usize,
 }
 
-impl Ecb {
-    pub fn new(key_len: usize, direction: Direction) -> Ecb {
-        let encrypt = match direction {
-            Direction::Forward => 1,
-            Direction::Back => 0,
-        };
+impl Cipher {
+    /// `named` holds the cipher for keys of 16, 24 and 32 bytes.
+    fn new(
+        named: [unsafe extern "C" fn() -> *const c_void; 3],
+        key_len: usize,
+        encrypt: c_int,
+    ) -> Cipher {
+        let [short, middle, long] = named;
         // SAFETY: the calls take no memory but the context, and null stands for what is not given.
         unsafe {
             let cipher = match key_len {
-                16 => EVP_aria_128_ecb(),
-                24 => EVP_aria_192_ecb(),
-                32 => EVP_aria_256_ecb(),
+                16 => short(),
+                24 => middle(),
+                32 => long(),
                 _ => panic!("ARIA has no key of {key_len} bytes"),
             };
             let context = EVP_CIPHER_CTX_new();
@@ -71,25 +76,25 @@ impl Ecb {
             );
             assert_eq!(started, 1, "EVP_CipherInit_ex: no ARIA in this libcrypto");
             assert_eq!(EVP_CIPHER_CTX_set_padding(context, 0), 1);
-            Ecb { context, key_len }
+            Cipher { context, key_len }
         }
     }
 
-    /// Prepares the key and processes the run in place, as one of our calls does.
-    pub fn run(&mut self, key: &[u8], run: &mut [u8]) {
+    /// Prepares the key and processes the run in place, as one of our calls does. `iv` is null, or has
+    /// sixteen bytes where the cipher takes them.
+    fn run(&mut self, key: &[u8], iv: *const c_uchar, run: &mut [u8]) {
         assert_eq!(key.len(), self.key_len);
-        assert_eq!(run.len() % 16, 0);
         let len = c_int::try_from(run.len()).expect("a run below 2 GiB");
         let mut out_len = 0;
-        // SAFETY: the key has the cipher's length; without padding an update of whole blocks writes
-        // as many bytes as it reads, and input and output may be the same.
+        // SAFETY: the key has the cipher's length; an update of whole blocks without padding, or of a
+        // stream, writes as many bytes as it reads, and input and output may be the same.
         unsafe {
             let keyed = EVP_CipherInit_ex(
                 self.context,
                 ptr::null(),
                 ptr::null_mut(),
                 key.as_ptr(),
-                ptr::null(),
+                iv,
                 -1,
             );
             assert_eq!(keyed, 1, "EVP_CipherInit_ex");
@@ -106,9 +111,43 @@ impl Ecb {
     }
 }
 
-impl Drop for Ecb {
+impl Drop for Cipher {
     fn drop(&mut self) {
         // SAFETY: the context came from EVP_CIPHER_CTX_new and is freed once.
         unsafe { EVP_CIPHER_CTX_free(self.context) }
+    }
+}
+
+/// ARIA-ECB in one direction, for keys of one length.
+pub struct Ecb(Cipher);
+
+impl Ecb {
+    pub fn new(key_len: usize, direction: Direction) -> Ecb {
+        let encrypt = match direction {
+            Direction::Forward => 1,
+            Direction::Back => 0,
+        };
+        let named = [EVP_aria_128_ecb, EVP_aria_192_ecb, EVP_aria_256_ecb];
+        Ecb(Cipher::new(named, key_len, encrypt))
+    }
+
+    pub fn run(&mut self, key: &[u8], run: &mut [u8]) {
+        assert_eq!(run.len() % 16, 0);
+        self.0.run(key, ptr::null(), run);
+    }
+}
+
+/// ARIA-CTR for keys of one length. Encryption and decryption are the same.
+pub struct Ctr(Cipher);
+
+impl Ctr {
+    pub fn new(key_len: usize) -> Ctr {
+        let named = [EVP_aria_128_ctr, EVP_aria_192_ctr, EVP_aria_256_ctr];
+        Ctr(Cipher::new(named, key_len, 1))
+    }
+
+    /// Under the counter blocks from `first` on.
+    pub fn run(&mut self, key: &[u8], first: &[u8; 16], run: &mut [u8]) {
+        self.0.run(key, first.as_ptr(), run);
     }
 }
