@@ -81,7 +81,7 @@ SLOW = [
 ]
 
 
-# A key.bin that cannot be read, and a standard input that is closed, count as empty.
+# A key.bin that cannot be read is no key, and a standard input that is closed counts as empty.
 NO_KEY = cases.Case("key.bin is a folder", None, cases.sample().file(), 1)
 NO_INPUT = cases.Case("closed standard input", cases.KEYS[16], b"", 5)
 
@@ -150,9 +150,6 @@ def run_open(path, all_cases, comparison):
             written = in_turn(program, turn, case, (number,))
             comparison.note("open %r" % number[:40], case, expected_of_open(case, number), written)
             turn += 1
-        for case in (cases.sample().case("sample", 0), cases.Case("empty", cases.KEYS[16], b"", 5)):
-            written = program.from_file(case.key, case.file)
-            comparison.note("open with no number", case, expected_of_open(case, b""), written)
         for case, piece in SLOW:
             number = numbers_to_ask(case, 0)[-1]
             written = program.from_pipe(case.key, case.file, piece, (number,))

@@ -1,30 +1,47 @@
-// Prints the jobs of the archive on standard input, under the key in key.bin.
-ghost use Rattle.io.specs.Counts.{Counts};
+// Prints the jobs of the archive on standard input, under the key in key.bin. Standard output has the listing or the line of a refusal, and
+// else nothing: what goes wrong outside the archive is said on standard error.
+use libc::STDERR_FILENO;
 use libc::STDIN_FILENO;
 use libc::STDOUT_FILENO;
 
-// Reads key.bin; answers how many bytes there are, 0 where it is missing or cannot be read. The buffer has one byte more than the longest
-// key, so that a longer file does not pass for a key.
-fn read_key(key: &mut [u8; 33]) -> usize
-    ensures { λ r. ⌜ Counts r (now (key .exit)) ⌝ }
-{
-    let fd = os::open_read(b"key.bin");
-    if fd < 0 {
-        return 0;
+fn print_usage() {
+    io::write_all(
+        STDERR_FILENO,
+        b"usage: jobs < ARCHIVE\nlists the archive's jobs, under the key in key.bin of this folder\n",
+    );
+}
+
+// A hint for who waits at a terminal, or typed words that are not taken. It changes nothing that follows.
+fn hint() {
+    if os::arg_count() > 1 {
+        return print_usage();
     }
-    let n = io::read_full(fd, key);
-    libc::close(fd);
-    n
+    if libc::isatty(STDIN_FILENO) == 1 {
+        print_usage();
+    }
+}
+
+fn write_listing(key: &[u8], file: &[u8]) {
+    let listing = listing::list(key, file);
+    let text = listing.text;
+    let length = listing.length;
+    if !io::write_all(STDOUT_FILENO, &text[..length]) {
+        io::write_all(STDERR_FILENO, b"jobs: could not write\n");
+    }
 }
 
 fn main() {
+    hint();
+    // one byte more than the longest key
     let mut key = [0u8; 33];
-    let k = read_key(&mut key);
+    let k = inputs::named_file(b"key.bin", &mut key);
     // one byte more than the longest archive
     let mut file = [0u8; 65537];
-    let n = io::read_full(STDIN_FILENO, &mut file);
-    let listing = listing::list(&key[..k], &file[..n]);
-    let text = listing.text;
-    let length = listing.length;
-    io::write_all(STDOUT_FILENO, &text[..length]);
+    let input = inputs::standard_input(&mut file);
+    if input.failed {
+        io::write_all(STDERR_FILENO, b"jobs: could not read\n");
+        return;
+    }
+    let n = input.length;
+    write_listing(&key[..k], &file[..n]);
 }

@@ -1,23 +1,15 @@
 // Writes the plain bytes of the job that its argument names, from the archive on standard input, under the key in key.bin.
-// A refusal goes to standard error, so that plain bytes can never be mistaken for one.
-ghost use Rattle.io.specs.Counts.{Counts};
+// A refusal goes to standard error, so that plain bytes can never be mistaken for one, and so does what goes wrong outside the archive.
 use archive::Opened;
 use libc::STDERR_FILENO;
 use libc::STDIN_FILENO;
 use libc::STDOUT_FILENO;
 
-// Reads key.bin; answers how many bytes there are, 0 where it is missing or cannot be read. The buffer has one byte more than the longest
-// key, so that a longer file does not pass for a key.
-fn read_key(key: &mut [u8; 33]) -> usize
-    ensures { λ r. ⌜ Counts r (now (key .exit)) ⌝ }
-{
-    let fd = os::open_read(b"key.bin");
-    if fd < 0 {
-        return 0;
-    }
-    let n = io::read_full(fd, key);
-    libc::close(fd);
-    n
+fn print_usage() {
+    io::write_all(
+        STDERR_FILENO,
+        b"usage: open JOB < ARCHIVE > PLAIN\nopens the job of that number, eight digits, under the key in key.bin of this folder\n",
+    );
 }
 
 // Writes the line of a refusal.
@@ -28,6 +20,12 @@ fn print_refusal(n: u32) {
     io::write_all(STDERR_FILENO, &text[..length]);
 }
 
+fn write_plain(bytes: &[u8]) {
+    if !io::write_all(STDOUT_FILENO, bytes) {
+        io::write_all(STDERR_FILENO, b"open: could not write\n");
+    }
+}
+
 // Opens the job and writes its plain bytes, or the refusal.
 fn write_job(key: &[u8], file: &[u8], number: &[u8]) {
     // no body is longer than the longest archive
@@ -35,20 +33,36 @@ fn write_job(key: &[u8], file: &[u8], number: &[u8]) {
     let opened = archive::open(key, file, number, &mut plain);
     match opened {
         Opened::Refused(n) => print_refusal(n),
-        Opened::Bytes(n) => {
-            io::write_all(STDOUT_FILENO, &plain[..n]);
-        }
+        Opened::Bytes(n) => write_plain(&plain[..n]),
     }
 }
 
-fn main() {
-    // one byte more than a job number; an argument that is missing or does not fit counts as empty
-    let mut number = [0u8; 9];
-    let d = os::arg(1, &mut number);
+// Reads the key and the archive, and opens the job.
+fn open_job(number: &[u8]) {
+    // one byte more than the longest key
     let mut key = [0u8; 33];
-    let k = read_key(&mut key);
+    let k = inputs::named_file(b"key.bin", &mut key);
     // one byte more than the longest archive
     let mut file = [0u8; 65537];
-    let n = io::read_full(STDIN_FILENO, &mut file);
-    write_job(&key[..k], &file[..n], &number[..d]);
+    let input = inputs::standard_input(&mut file);
+    if input.failed {
+        io::write_all(STDERR_FILENO, b"open: could not read\n");
+        return;
+    }
+    let n = input.length;
+    write_job(&key[..k], &file[..n], number);
+}
+
+fn main() {
+    if os::arg_count() != 2 {
+        return print_usage();
+    }
+    // a hint for who waits at a terminal; it changes nothing that follows
+    if libc::isatty(STDIN_FILENO) == 1 {
+        print_usage();
+    }
+    // one byte more than a job number: a word that does not fit counts as empty, which is no job number either
+    let mut number = [0u8; 9];
+    let d = os::arg(1, &mut number);
+    open_job(&number[..d]);
 }

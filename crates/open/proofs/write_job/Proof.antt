@@ -28,13 +28,13 @@ array-share-prefix-plain c =
     let o = c .before .before .before .before .«open» .ensures in
     opens-fits _ _ _ _ _ _ o _ (ap openedAs (c .before .opened2 .given .1))
 
-slice-aggregate-write-all : tie.Need-slice-aggregate-write-all
-slice-aggregate-write-all c =
+slice-aggregate-write-plain : tie.Need-slice-aggregate-write-plain
+slice-aggregate-write-plain c =
     let o = c .before .before .before .before .before .«open» .ensures in
     sym (length-take-le _ _ (opens-fits _ _ _ _ _ _ o _ (ap openedAs (c .before .before .opened2 .given .1))))
 
-write-all-requires : tie.Need-write-all-requires
-write-all-requires c κs = search needs
+write-plain-requires : tie.Need-write-plain-requires
+write-plain-requires c κs = search needs
 
 returns : tie.Need-returns
 returns c = search needs
@@ -52,7 +52,7 @@ write-job-spec =
     print-refusal-requires
     enum-known-opened-2
     array-share-prefix-plain
-    slice-aggregate-write-all
-    write-all-requires
+    slice-aggregate-write-plain
+    write-plain-requires
     returns
     returns-2)

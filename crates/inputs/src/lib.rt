@@ -1,0 +1,142 @@
+// What the programs read: a file by its name, and standard input. An error is told from the end of the input.
+ghost use mathlib.Core.Path.{_≡_};
+ghost use Prim.Native.Nat.{_≤_, min};
+ghost use lib.ListN.{length};
+ghost use Rattle.io.specs.Counts.{Counts};
+ghost use Rattle.inputs.specs.Filled.{Filled};
+use libc::STDIN_FILENO;
+
+// How many bytes were read, and whether a read failed. Both are the operating system's word, of which no contract can speak.
+pub struct Input {
+    pub length: usize,
+    pub failed: bool,
+}
+
+// How often a read is tried that signals break off.
+const TRIES: usize = 1000;
+
+// Whether what a read answered is that a signal broke it off before it read a byte.
+fn is_interrupted(got: isize) -> bool {
+    if got >= 0 {
+        return false;
+    }
+    os::errno() == libc::EINTR
+}
+
+// A read, tried again where a signal breaks it off; answers as `libc::read` does.
+fn read_tried(fd: i32, buf: &mut [u8]) -> isize {
+    let mut tries: usize = 0;
+    while tries < TRIES {
+        let got = libc::read(fd, buf);
+        if !is_interrupted(got) {
+            return got;
+        }
+        tries += 1;
+    }
+    -1
+}
+
+fn least(a: usize, b: usize) -> usize
+    ensures { λ r. ⌜ r ≡ min a b ⌝ }
+{
+    if a < b { a } else { b }
+}
+
+// One read; answers how many bytes it put at the front of the buffer, and whether it failed. No bytes mean the input's end, or an error.
+fn read_once(fd: i32, buf: &mut [u8]) -> Input
+    ensures { λ r. ⌜ Counts (r .length) (now (buf .exit)) ⌝ }
+{
+    let got = read_tried(fd, buf);
+    let failed = got < 0;
+    let length = io::count(got, buf);
+    Input { length, failed }
+}
+
+// The same, and copies the bytes over the front of another buffer.
+fn read_through(fd: i32, chunk: &mut [u8], buf: &mut [u8]) -> Input
+    requires { ⌜ length (now chunk) ≤ length (now buf) ⌝ }
+    ensures { λ r. ⌜ Filled (now (buf .entry)) (r .length) (now (buf .exit)) ⌝ }
+{
+    let input = read_once(fd, chunk);
+    let n = input.length;
+    octets::copy(&chunk[..n], buf);
+    input
+}
+
+// One read into the front of a buffer. It goes through bytes of its own, since a read may do anything to bytes that it does not count.
+fn read_piece(fd: i32, buf: &mut [u8]) -> Input
+    ensures { λ r. ⌜ Filled (now (buf .entry)) (r .length) (now (buf .exit)) ⌝ }
+{
+    let mut chunk = [0u8; 4096];
+    let most = least(buf.len(), 4096);
+    read_through(fd, &mut chunk[..most], buf)
+}
+
+// Reads until the buffer is full, the input ends or a read fails.
+fn read_all(fd: i32, buf: &mut [u8]) -> Input
+    ensures { λ r. ⌜ Filled (now (buf .entry)) (r .length) (now (buf .exit)) ⌝ }
+{
+    let mut done: usize = 0;
+    while done < buf.len() {
+        let piece = read_piece(fd, &mut buf[done..]);
+        let n = piece.length;
+        if n == 0 {
+            let failed = piece.failed;
+            return Input {
+                length: done,
+                failed,
+            };
+        }
+        done += n;
+    }
+    Input {
+        length: done,
+        failed: false,
+    }
+}
+
+// Whether an input that was just read is none: its first read failed since the descriptor is closed, or not open for reading.
+fn is_closed(input: Input) -> bool {
+    if input.length > 0 {
+        return false;
+    }
+    if input.failed {
+        return os::errno() == libc::EBADF;
+    }
+    false
+}
+
+// Reads standard input to its end, or as much of it as the buffer holds. One that is closed counts as empty.
+pub fn standard_input(buf: &mut [u8]) -> Input
+    ensures { λ r. ⌜ Filled (now (buf .entry)) (r .length) (now (buf .exit)) ⌝ }
+{
+    let input = read_all(STDIN_FILENO, buf);
+    if is_closed(input) {
+        return Input {
+            length: input.length,
+            failed: false,
+        };
+    }
+    input
+}
+
+// Reads a file to its end, or as much of it as the buffer holds, and answers how many bytes that is. A file that is missing counts as
+// empty; one that cannot be read counts as one that fills the buffer. So a caller lends one byte more than the longest file that it takes,
+// and never takes a file for one that was read to its end when it was not.
+pub fn named_file(name: &[u8], buf: &mut [u8]) -> usize
+    ensures { λ r. ⌜ Filled (now (buf .entry)) r (now (buf .exit)) ⌝ }
+{
+    let fd = os::open_read(name);
+    if fd < 0 {
+        if os::errno() == libc::ENOENT {
+            return 0;
+        }
+        return buf.len();
+    }
+    let input = read_all(fd, buf);
+    libc::close(fd);
+    if input.failed {
+        return buf.len();
+    }
+    input.length
+}

@@ -1,0 +1,248 @@
+"""Holds the programs `jobs` and `open` to what they say when reading or writing fails, at a terminal, and of their words.
+
+    python3 tests/programs/run.py --jobs target/bin/jobs --open target/bin/open
+
+Each case runs a program on the sample archive in a folder of its own and compares standard output, standard error and the way it ended.
+Faults that a file cannot be made to have come from faults.c, which stands before the C library's read and write. The last line is a
+count, or says how many differ, and then the exit status is 1.
+"""
+
+import argparse
+import contextlib
+import errno
+import os
+import pty
+import shutil
+import signal
+import subprocess
+import sys
+import tempfile
+from collections import namedtuple
+
+HERE = os.path.dirname(os.path.abspath(__file__))
+SAMPLE = os.path.join(HERE, "..", "..", "examples", "sample")
+SECONDS = 60
+
+Written = namedtuple("Written", "stdout stderr status")
+# What a program says, by its name, and what it writes of the sample when nothing goes wrong.
+Says = namedtuple("Says", "name words output could_not_read could_not_write usage")
+
+JOBS = Says(
+    "jobs",
+    [],
+    b"jobs 2\n24000017 52 5\n24000018 57 0\n",
+    b"jobs: could not read\n",
+    b"jobs: could not write\n",
+    b"usage: jobs < ARCHIVE\nlists the archive's jobs, under the key in key.bin of this folder\n",
+)
+OPEN = Says(
+    "open",
+    ["24000017"],
+    b"dried",
+    b"open: could not read\n",
+    b"open: could not write\n",
+    b"usage: open JOB < ARCHIVE > PLAIN\nopens the job of that number, eight digits, under the key in key.bin of this folder\n",
+)
+
+# The key file's descriptor: the first that is free.
+KEY_FILE = 3
+# How often a read that signals break off is tried.
+TRIES = 1000
+
+
+def refused(says, number):
+    """A refusal's line: `jobs` prints it, `open` keeps standard output for plain bytes."""
+    line = b"refused %d\n" % number
+    return Written(line, b"", 0) if says is JOBS else Written(b"", line, 0)
+
+
+class Folder:
+    """A folder with the sample archive and its key, in which a program is run."""
+
+    def __init__(self, program, faults):
+        self.program = os.path.abspath(program)
+        self.faults = faults
+        self.path = tempfile.mkdtemp(prefix="programs-")
+        for name in ("archive.bin", "key.bin"):
+            shutil.copy(os.path.join(SAMPLE, name), self.path)
+
+    def __enter__(self):
+        return self
+
+    def __exit__(self, *_):
+        shutil.rmtree(self.path)
+
+    def file(self, name):
+        return os.path.join(self.path, name)
+
+    def run(self, words, stdin=None, stdout=subprocess.PIPE, fault=None, shell=None):
+        """With the archive on standard input unless told otherwise; `shell` has redirections that only a shell can make."""
+        command = [self.program, *words]
+        if shell:
+            command = ["sh", "-c", 'exec "$0" "$@" ' + shell, *command]
+        environment = dict(os.environ, LC_ALL="C")
+        if fault:
+            environment.update(LD_PRELOAD=self.faults, FAULT="%s %d %d %d %d" % fault)
+        with contextlib.ExitStack() as stack:
+            if stdin is None:
+                stdin = stack.enter_context(open(self.file("archive.bin"), "rb"))
+            process = subprocess.Popen(
+                command, cwd=self.path, env=environment, stdin=stdin, stdout=stdout, stderr=subprocess.PIPE
+            )
+            try:
+                out, err = process.communicate(timeout=SECONDS)
+            except subprocess.TimeoutExpired:
+                process.kill()
+                out, err = process.communicate()
+                return Written(out or b"", err + b"still running after %d seconds" % SECONDS, None)
+        return Written(out or b"", err, process.returncode)
+
+
+def whole(says):
+    yield "nothing wrong", Written(says.output, b"", 0), lambda f: f.run(says.words)
+
+
+def writing(says):
+    """A write that fails is said, whatever of the output went out before it."""
+    failed = Written(b"", says.could_not_write, 0)
+
+    def to_full(f):
+        with open("/dev/full", "wb") as full:
+            return f.run(says.words, stdout=full)
+
+    yield "output to /dev/full", failed, to_full
+    yield "standard output closed", failed, lambda f: f.run(says.words, stdout=None, shell=">&-")
+    yield "standard output open for reading only", failed, lambda f: f.run(says.words, stdout=None, shell="1<archive.bin")
+    for after in (0, 1, 4):
+        yield "disk full after %d bytes" % after, Written(says.output[:after], says.could_not_write, 0), (
+            lambda f, after=after: f.run(says.words, fault=("write", 1, after, errno.ENOSPC, 1))
+        )
+
+    def to_nobody(f):
+        reader, writer = os.pipe()
+        os.close(reader)
+        try:
+            return f.run(says.words, stdout=writer)
+        finally:
+            os.close(writer)
+
+    yield "output to a broken pipe", Written(b"", b"", -signal.SIGPIPE), to_nobody
+
+
+def reading(says):
+    """A read error is no end of input; only a standard input that is closed counts as empty."""
+    failed = Written(b"", says.could_not_read, 0)
+
+    def from_folder(f):
+        folder = os.open(f.path, os.O_RDONLY)
+        try:
+            return f.run(says.words, stdin=folder)
+        finally:
+            os.close(folder)
+
+    yield "standard input is a folder", failed, from_folder
+    for after in (0, 19, 20, 52, 57):
+        yield "input error after %d bytes" % after, failed, (
+            lambda f, after=after: f.run(says.words, fault=("read", 0, after, errno.EIO, 1))
+        )
+    yield "standard input gone after 20 bytes", failed, lambda f: f.run(says.words, fault=("read", 0, 20, errno.EBADF, 1))
+    yield "standard input closed", refused(says, 5), lambda f: f.run(says.words, shell="<&-")
+    yield "standard input open for writing only", refused(says, 5), lambda f: f.run(says.words, shell="0>other.bin")
+    for after in (0, 20, 57):
+        for times in (1, TRIES - 1):
+            yield "input broken off %d times after %d bytes" % (times, after), Written(says.output, b"", 0), (
+                lambda f, after=after, times=times: f.run(says.words, fault=("read", 0, after, errno.EINTR, times))
+            )
+        yield "input broken off without end after %d bytes" % after, failed, (
+            lambda f, after=after: f.run(says.words, fault=("read", 0, after, errno.EINTR, TRIES))
+        )
+
+
+def key_files(says):
+    """A key.bin that is missing is empty; one that cannot be read, or not to its end, is no key, even if what was read is one."""
+    for after in (0, 15, 16):
+        yield "key.bin error after %d bytes" % after, refused(says, 1), (
+            lambda f, after=after: f.run(says.words, fault=("read", KEY_FILE, after, errno.EIO, 1))
+        )
+        yield "key.bin broken off after %d bytes" % after, Written(says.output, b"", 0), (
+            lambda f, after=after: f.run(says.words, fault=("read", KEY_FILE, after, errno.EINTR, 1))
+        )
+
+    def without(f):
+        os.remove(f.file("key.bin"))
+        return f.run(says.words)
+
+    def circular(f):
+        os.remove(f.file("key.bin"))
+        os.symlink("key.bin", f.file("key.bin"))
+        return f.run(says.words)
+
+    def folder(f):
+        os.remove(f.file("key.bin"))
+        os.mkdir(f.file("key.bin"))
+        return f.run(says.words)
+
+    yield "no key.bin", refused(says, 1), without
+    yield "key.bin that cannot be opened", refused(says, 1), circular
+    yield "key.bin is a folder", refused(says, 1), folder
+
+
+def terminals(says):
+    """At a terminal a hint comes first, and changes nothing else: an end of input there is an empty archive."""
+
+    def at_terminal(f):
+        here, there = pty.openpty()
+        try:
+            os.write(here, b"\x04")
+            return f.run(says.words, stdin=there)
+        finally:
+            os.close(here)
+            os.close(there)
+
+    empty = refused(says, 5)
+    yield "at a terminal", empty._replace(stderr=says.usage + empty.stderr), at_terminal
+
+
+def words_of_jobs(says):
+    for words in (["24000017"], ["--help"], ["a", "b"], [""]):
+        yield "words %s" % words, Written(says.output, says.usage, 0), lambda f, words=words: f.run(words)
+
+
+def words_of_open(says):
+    usage = Written(b"", says.usage, 0)
+    for words in ([], ["24000017", "24000018"], ["24000017", ""], ["24000017"] * 5):
+        yield "words %s" % words, usage, lambda f, words=words: f.run(words)
+    for words in ([""], ["--help"], ["2400001"], ["240000170"], ["2" * 5000]):
+        yield "word %.20s" % words, refused(says, 18), lambda f, words=words: f.run(words)
+    yield "a job of no bytes", Written(b"", b"", 0), lambda f: f.run(["24000018"])
+
+
+def main():
+    parser = argparse.ArgumentParser(description=__doc__.splitlines()[0])
+    parser.add_argument("--jobs", required=True)
+    parser.add_argument("--open", required=True)
+    options = parser.parse_args()
+    both = (whole, writing, reading, key_files, terminals)
+    agreed = differed = 0
+    with tempfile.TemporaryDirectory(prefix="programs-") as built:
+        faults = os.path.join(built, "faults.so")
+        subprocess.run(
+            ["cc", "-std=c99", "-Wall", "-Wextra", "-Werror", "-shared", "-fPIC", os.path.join(HERE, "faults.c"), "-o", faults, "-ldl"],
+            check=True,
+        )
+        for says, program, groups in ((JOBS, options.jobs, (*both, words_of_jobs)), (OPEN, options.open, (*both, words_of_open))):
+            for name, expected, run in (case for group in groups for case in group(says)):
+                with Folder(program, faults) as folder:
+                    written = run(folder)
+                agreed += written == expected
+                differed += written != expected
+                if written != expected:
+                    print("DIFFERS %s: %s\n  expected %s\n  written  %s" % (says.name, name, expected, written))
+    sys.stdout.flush()
+    if differed:
+        sys.exit("programs: %d of %d cases differ" % (differed, agreed + differed))
+    print("programs: %d cases agree" % agreed)
+
+
+if __name__ == "__main__":
+    main()
