@@ -1,0 +1,133 @@
+"""Does what README.md says: runs each of its commands and examples from its own text, and compares.
+
+    python3 tests/docs/run_readme.py
+
+Every block of README.md set as `sh`, `rust` or `toml` is run or used, in a folder of its own where it is not for the top folder, and a
+block set as `text` is what the command before it has to end in. A block that no check here knows is a fault, so that no command goes
+untried. The commands must leave nothing new in the top folder.
+"""
+
+import os
+import re
+import shutil
+import subprocess
+import sys
+import tempfile
+
+TOP = os.path.realpath(os.path.join(os.path.dirname(os.path.abspath(__file__)), "..", ".."))
+SAMPLE = os.path.join(TOP, "examples", "sample")
+BLOCK = re.compile(r"^```(\w*)\n(.*?)^```$", re.M | re.S)
+PRINTS = re.compile(r"^It prints `(.*)`\.$", re.M)
+
+
+def read(path, mode="r"):
+    with open(path, mode) as file:
+        return file.read()
+
+
+def expect(what, seen, wanted):
+    if seen != wanted:
+        sys.exit("README.md: %s\n  says   %r\n  gives  %r" % (what, wanted, seen))
+
+
+def run(command, folder, status=0):
+    done = subprocess.run(["bash", "-c", command], cwd=folder, stdin=subprocess.DEVNULL, capture_output=True, text=True)
+    if done.returncode != status:
+        sys.exit("README.md: %s\n  ended with %d\n%s%s" % (command, done.returncode, done.stdout[-2000:], done.stderr[-2000:]))
+    return done
+
+
+def at_top(command, ending):
+    """A command for the top folder, which ends in the text given."""
+    before = sorted(os.listdir(TOP))
+    done = run(command, TOP)
+    if ending:
+        wanted = ending.rstrip("\n").splitlines()
+        expect(command, done.stdout.splitlines()[-len(wanted) :], wanted)
+    expect("%s: what is in the top folder" % command, sorted(os.listdir(TOP)), sorted({*before, "target"}))
+
+
+def hexadecimal(command, scratch):
+    """A key in hexadecimal becomes the bytes of the sample's key."""
+    with open(os.path.join(scratch, "key.txt"), "w") as file:
+        file.write(read(os.path.join(SAMPLE, "key.bin"), "rb").hex() + "\n")
+    run(command, scratch)
+    expect(command, read(os.path.join(scratch, "key.bin"), "rb"), read(os.path.join(SAMPLE, "key.bin"), "rb"))
+
+
+def beside_programs(scratch):
+    """A folder from which ../../target/bin is the programs' folder, with the sample in it."""
+    folder = os.path.join(scratch, "some", "folder")
+    os.makedirs(folder)
+    os.symlink(os.path.join(TOP, "target"), os.path.join(scratch, "target"))
+    for name in os.listdir(SAMPLE):
+        shutil.copy(os.path.join(SAMPLE, name), folder)
+    return folder
+
+
+def listing_recipe(command, scratch):
+    """Goes on with a listing, and ends a script where there is none."""
+    folder = beside_programs(scratch)
+    listed = run(command + 'echo "$listing"', folder).stdout
+    expect("the listing of the recipe", listed, read(os.path.join(TOP, "crates", "jobs", "stdout")))
+    os.remove(os.path.join(folder, "key.bin"))
+    done = run(command + "echo went on", folder, status=1)
+    expect("the recipe on a refusal", (done.stdout, done.stderr), ("", "not listed: refused 1\n"))
+    done = run(command.replace("< archive.bin", "< .") + "echo went on", folder, status=1)
+    expect("the recipe on a read error", done.stderr, "jobs: could not read\nnot listed: \n")
+
+
+def opening_recipe(command, scratch):
+    """Goes on with the plain bytes, also where there are none, and ends a script, without a plain file, on anything else."""
+    folder = beside_programs(scratch)
+    plain = os.path.join(folder, "plain.bin")
+    run(command, folder)
+    expect("the plain bytes of the recipe", read(plain, "rb"), b"dried")
+    run(command.replace("24000017", "24000018"), folder)
+    expect("the recipe on a job of length 0", read(plain, "rb"), b"")
+    done = run(command.replace("24000017", "24000019") + "echo went on", folder, status=1)
+    expect("the recipe on a refusal", (done.stdout, done.stderr, os.path.exists(plain)), ("", "refused 19\n", False))
+    done = run(command.replace("< archive.bin", "< .") + "echo went on", folder, status=1)
+    expect("the recipe on a read error", (done.stdout, done.stderr, os.path.exists(plain)), ("", "open: could not read\n", False))
+
+
+def rust_program(source, dependency, printed, scratch):
+    """A package with the dependency as it stands, and the checkout beside it under the name that the dependency has."""
+    os.symlink(TOP, os.path.join(scratch, "guodnelt"))
+    os.makedirs(os.path.join(scratch, "program", "src"))
+    package = '[package]\nname = "program"\nversion = "0.1.0"\nedition = "2021"\n\n[dependencies]\n'
+    with open(os.path.join(scratch, "program", "Cargo.toml"), "w") as file:
+        file.write(package + dependency)
+    with open(os.path.join(scratch, "program", "src", "main.rs"), "w") as file:
+        file.write(source)
+    done = run("cargo run --offline --quiet", os.path.join(scratch, "program"))
+    expect("the Rust program", done.stdout, printed + "\n")
+    expect("the Rust program's warnings", done.stderr, "")
+
+
+def main():
+    text = read(os.path.join(TOP, "README.md"))
+    blocks = BLOCK.findall(text)
+    texts = {kind: [body for of, body in blocks if of == kind] for kind in ("toml", "rust")}
+    tried = 0
+    for at, (kind, body) in enumerate(blocks):
+        following = blocks[at + 1][1] if blocks[at + 1 : at + 2] and blocks[at + 1][0] == "text" else None
+        with tempfile.TemporaryDirectory(prefix="readme-") as scratch:
+            if kind == "sh" and body.startswith(("rt check ", "rt staticlib ")):
+                at_top(body, following)
+            elif kind == "sh" and body.startswith("xxd "):
+                hexadecimal(body, scratch)
+            elif kind == "sh" and body.startswith("listing="):
+                listing_recipe(body, scratch)
+            elif kind == "sh" and "bin/open" in body:
+                opening_recipe(body, scratch)
+            elif kind == "rust":
+                rust_program(body, texts["toml"][0], PRINTS.search(text).group(1), scratch)
+            elif kind not in ("text", "toml"):
+                sys.exit("README.md: no check here runs\n%s" % body)
+            tried += kind in ("sh", "rust")
+    print("README.md: %d commands and examples do what it says" % tried)
+
+
+if __name__ == "__main__":
+    main()
