@@ -1,29 +1,35 @@
 //! ARIA (RFC 5794) on runs of blocks: a safe wrapper of the proved library `libaria.a`.
 //!
-//! [`run`] encrypts or decrypts every 16-byte block of a run in place, each on its own (ECB). Keys
-//! are 16, 24 or 32 bytes long. The mode of operation is for the caller to choose.
+//! [`encrypt`] and [`decrypt`] process every 16-byte block of a run in place, each on its own (ECB);
+//! [`run`] is both, with the direction as a value. Keys are 16, 24 or 32 bytes long. The mode of
+//! operation is for the caller to choose.
 //!
 //! ```
-//! use aria_host::{run, Direction, Engine, Refusal};
+//! use aria_host::{decrypt, encrypt, Engine, Refusal};
 //!
 //! // RFC 5794, A.1.
 //! let key: Vec<u8> = (0x00..=0x0f).collect();
 //! let mut block: Vec<u8> = (0x0..=0xf).map(|digit| digit * 0x11).collect();
 //!
-//! run(Engine::Tables, &key, Direction::Forward, &mut block)?;
+//! encrypt(Engine::Tables, &key, &mut block)?;
 //! assert_eq!(block[..4], [0xd7, 0x18, 0xfb, 0xd6]);
 //!
-//! run(Engine::Plain, &key, Direction::Back, &mut block)?;
+//! decrypt(Engine::Plain, &key, &mut block)?;
 //! assert_eq!(block[..4], [0x00, 0x11, 0x22, 0x33]);
 //!
-//! let refusal = run(Engine::Tables, &key[..15], Direction::Forward, &mut block).unwrap_err();
+//! let refusal = encrypt(Engine::Tables, &key[..15], &mut block).unwrap_err();
 //! assert_eq!(refusal, Refusal::KeyLength);
 //! assert_eq!(refusal.to_string(), "refused 1: the key is not 16, 24 or 32 bytes long");
 //! # Ok::<(), Refusal>(())
 //! ```
 //!
+//! Each call prepares its key anew, which takes as long as several blocks do: hand over long runs, not
+//! one block at a time. [`Engine`] says which engine is the faster one when.
+//!
 //! What is proved is the library. Nothing checks this wrapper's declarations of its functions, which
 //! is why the tests compare both engines with another implementation on many inputs.
+
+#![deny(missing_docs)]
 
 use std::error::Error;
 use std::fmt;
@@ -57,16 +63,30 @@ mod ffi {
 }
 
 /// Which of the two proved engines does the work. Both give the same bytes and the same answers.
+///
+/// `Plain` is the faster one on a few blocks. `Tables` is from about four blocks on, and takes two
+/// thirds of the time on long runs. So it was measured, with the key prepared in each call; where the
+/// two cross varies from one process to the next, between one block and ten.
 #[derive(Clone, Copy, Debug, PartialEq, Eq, Hash)]
 pub enum Engine {
-    /// Byte boxes, and the diffusion layer byte by byte.
+    /// Byte boxes, and the diffusion layer byte by byte: for runs of a few blocks.
     Plain,
-    /// Tables of 32-bit words; the faster one.
+    /// Tables of 32-bit words, which each call makes first: for runs from about four blocks on.
     Tables,
 }
 
 impl Engine {
     /// Both engines, for code that compares them.
+    ///
+    /// ```
+    /// use aria_host::{encrypt, Engine};
+    ///
+    /// let results = Engine::ALL.map(|engine| {
+    ///     let mut run = [0; 32];
+    ///     encrypt(engine, b"sixteen key byte", &mut run).map(|()| run)
+    /// });
+    /// assert_eq!(results[0], results[1]);
+    /// ```
     pub const ALL: [Engine; 2] = [Engine::Plain, Engine::Tables];
 }
 
@@ -81,9 +101,27 @@ pub enum Direction {
 
 impl Direction {
     /// Both directions, forward first.
+    ///
+    /// ```
+    /// use aria_host::{run, Direction, Engine, Refusal};
+    ///
+    /// let mut block = *b"sixteen bytes in";
+    /// for direction in Direction::ALL {
+    ///     run(Engine::Plain, b"sixteen key byte", direction, &mut block)?;
+    /// }
+    /// assert_eq!(&block, b"sixteen bytes in");
+    /// # Ok::<(), Refusal>(())
+    /// ```
     pub const ALL: [Direction; 2] = [Direction::Forward, Direction::Back];
 
     /// The number by which the library knows it: 0 forward, 1 back.
+    ///
+    /// ```
+    /// use aria_host::Direction;
+    ///
+    /// assert_eq!(Direction::Forward.number(), 0);
+    /// assert_eq!(Direction::Back.number(), 1);
+    /// ```
     pub const fn number(self) -> u32 {
         match self {
             Direction::Forward => 0,
@@ -93,7 +131,10 @@ impl Direction {
 }
 
 /// Why a call was refused. A refused call leaves the run as it was.
+///
+/// A later version may know further refusals, so a `match` on one needs an arm for the rest.
 #[derive(Clone, Copy, Debug, PartialEq, Eq, Hash)]
+#[non_exhaustive]
 pub enum Refusal {
     /// 1: the key is not 16, 24 or 32 bytes long.
     KeyLength,
@@ -105,6 +146,14 @@ pub enum Refusal {
 
 impl Refusal {
     /// The delivery's number for it.
+    ///
+    /// ```
+    /// use aria_host::Refusal;
+    ///
+    /// assert_eq!(Refusal::KeyLength.number(), 1);
+    /// assert_eq!(Refusal::Direction.number(), 2);
+    /// assert_eq!(Refusal::RunLength.number(), 4);
+    /// ```
     pub const fn number(self) -> u32 {
         match self {
             Refusal::KeyLength => 1,
@@ -130,11 +179,66 @@ impl fmt::Display for Refusal {
 
 impl Error for Refusal {}
 
+/// Encrypts every block of `run` in place under `key`: [`run`] with [`Direction::Forward`].
+///
+/// ```
+/// use aria_host::{encrypt, Engine, Refusal};
+///
+/// let key = b"sixteen key byte";
+/// let mut blocks = [0; 64];
+/// encrypt(Engine::Plain, key, &mut blocks)?;
+/// // Each block is encrypted on its own, so equal blocks stay equal.
+/// assert_eq!(blocks[..16], blocks[16..32]);
+/// assert_ne!(blocks[..16], [0; 16]);
+///
+/// let part = encrypt(Engine::Plain, key, &mut blocks[..15]);
+/// assert_eq!(part, Err(Refusal::RunLength));
+/// # Ok::<(), Refusal>(())
+/// ```
+pub fn encrypt(engine: Engine, key: &[u8], run: &mut [u8]) -> Result<(), Refusal> {
+    self::run(engine, key, Direction::Forward, run)
+}
+
+/// Decrypts every block of `run` in place under `key`: [`run`] with [`Direction::Back`].
+///
+/// ```
+/// use aria_host::{decrypt, encrypt, Engine, Refusal};
+///
+/// let key = b"twenty-four bytes of key";
+/// let mut blocks = *b"two blocks of sixteen bytes each";
+/// encrypt(Engine::Tables, key, &mut blocks)?;
+/// decrypt(Engine::Tables, key, &mut blocks)?;
+/// assert_eq!(&blocks, b"two blocks of sixteen bytes each");
+/// # Ok::<(), Refusal>(())
+/// ```
+pub fn decrypt(engine: Engine, key: &[u8], run: &mut [u8]) -> Result<(), Refusal> {
+    self::run(engine, key, Direction::Back, run)
+}
+
 /// Encrypts or decrypts every block of `run` in place under `key`.
 ///
 /// Refused with the first that applies: [`Refusal::KeyLength`], [`Refusal::RunLength`]. An empty run
 /// is accepted.
-pub fn run(engine: Engine, key: &[u8], direction: Direction, run: &mut [u8]) -> Result<(), Refusal> {
+///
+/// ```
+/// use aria_host::{run, Direction, Engine, Refusal};
+///
+/// let mut block = *b"sixteen bytes in";
+/// run(Engine::Plain, b"sixteen key byte", Direction::Forward, &mut block)?;
+/// run(Engine::Tables, b"sixteen key byte", Direction::Back, &mut block)?;
+/// assert_eq!(&block, b"sixteen bytes in");
+///
+/// let refused = run(Engine::Plain, b"short key", Direction::Forward, &mut block);
+/// assert_eq!(refused, Err(Refusal::KeyLength));
+/// assert_eq!(&block, b"sixteen bytes in");
+/// # Ok::<(), Refusal>(())
+/// ```
+pub fn run(
+    engine: Engine,
+    key: &[u8],
+    direction: Direction,
+    run: &mut [u8],
+) -> Result<(), Refusal> {
     run_numbered(engine, key, direction.number(), run)
 }
 
@@ -143,7 +247,22 @@ pub fn run(engine: Engine, key: &[u8], direction: Direction, run: &mut [u8]) -> 
 ///
 /// For callers that hold a direction number they have not looked at, and for tests of the order of
 /// refusals.
-pub fn run_numbered(engine: Engine, key: &[u8], direction: u32, run: &mut [u8]) -> Result<(), Refusal> {
+///
+/// ```
+/// use aria_host::{run_numbered, Engine, Refusal};
+///
+/// let mut part = [0; 15];
+/// let answer = run_numbered(Engine::Plain, b"sixteen key byte", 2, &mut part);
+/// assert_eq!(answer, Err(Refusal::Direction));
+/// let answer = run_numbered(Engine::Plain, b"sixteen key byte", 1, &mut part);
+/// assert_eq!(answer, Err(Refusal::RunLength));
+/// ```
+pub fn run_numbered(
+    engine: Engine,
+    key: &[u8],
+    direction: u32,
+    run: &mut [u8],
+) -> Result<(), Refusal> {
     match answer(engine, key, direction, run) {
         0 => Ok(()),
         1 => Err(Refusal::KeyLength),

@@ -2,7 +2,7 @@
 
 mod support;
 
-use aria_host::{run, run_numbered, Direction, Engine, Refusal};
+use aria_host::{decrypt, encrypt, run, run_numbered, Direction, Engine, Refusal};
 use support::{Guarded, Random};
 
 const DIRECTIONS: [u32; 7] = [0, 1, 2, 3, 4, 5, u32::MAX];
@@ -84,20 +84,21 @@ fn directions_with_one_bit_set() {
 }
 
 #[test]
-fn the_typed_call_refuses_alike() {
+fn the_typed_calls_refuse_alike() {
+    type Call = fn(Engine, &[u8], &mut [u8]) -> Result<(), Refusal>;
+    let calls: [Call; 4] = [
+        |engine, key, bytes| run(engine, key, Direction::Forward, bytes),
+        |engine, key, bytes| run(engine, key, Direction::Back, bytes),
+        encrypt,
+        decrypt,
+    ];
     for engine in Engine::ALL {
-        for direction in Direction::ALL {
+        for call in calls {
             let mut bytes = [0x5a; 40];
-            assert_eq!(
-                run(engine, &[0; 15], direction, &mut bytes),
-                Err(Refusal::KeyLength)
-            );
-            assert_eq!(
-                run(engine, &[0; 16], direction, &mut bytes),
-                Err(Refusal::RunLength)
-            );
+            assert_eq!(call(engine, &[0; 15], &mut bytes), Err(Refusal::KeyLength));
+            assert_eq!(call(engine, &[0; 16], &mut bytes), Err(Refusal::RunLength));
             assert_eq!(bytes, [0x5a; 40]);
-            assert_eq!(run(engine, &[0; 16], direction, &mut []), Ok(()));
+            assert_eq!(call(engine, &[0; 16], &mut []), Ok(()));
         }
     }
 }

@@ -4,7 +4,7 @@ mod support;
 
 use std::collections::HashMap;
 
-use aria_host::{run, Direction, Engine};
+use aria_host::{decrypt, encrypt, run, Direction, Engine};
 use support::libcrypto::Ecb;
 
 const VECTORS: &str = include_str!("../../tests/data/aria-ecb.txt");
@@ -60,6 +60,19 @@ fn both_engines_give_the_published_bytes() {
             assert_eq!(bytes, v.sealed, "{}, {engine:?} forward", v.origin);
             assert_eq!(run(engine, &v.key, Direction::Back, &mut bytes), Ok(()));
             assert_eq!(bytes, v.plain, "{}, {engine:?} back", v.origin);
+        }
+    }
+}
+
+#[test]
+fn encrypt_and_decrypt_give_the_published_bytes() {
+    for v in vectors() {
+        for engine in Engine::ALL {
+            let mut bytes = v.plain.clone();
+            assert_eq!(encrypt(engine, &v.key, &mut bytes), Ok(()));
+            assert_eq!(bytes, v.sealed, "{}, {engine:?} encrypt", v.origin);
+            assert_eq!(decrypt(engine, &v.key, &mut bytes), Ok(()));
+            assert_eq!(bytes, v.plain, "{}, {engine:?} decrypt", v.origin);
         }
     }
 }
