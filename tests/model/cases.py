@@ -58,6 +58,11 @@ class Draft:
         )
         return (plate + rest)[: self.cut]
 
+    def change_key_check(self, at, change):
+        check = bytearray(self.key_check)
+        check[at] ^= change
+        self.key_check = bytes(check)
+
     def case(self, name, refusal):
         return Case(name, self.key, self.file(), refusal)
 
@@ -194,15 +199,30 @@ def plates():
     for at in range(8):
         for change in (0x01, 0x80, 0xFF):
             draft = three_jobs()
-            check = bytearray(draft.key_check)
-            check[at] ^= change
-            draft.key_check = bytes(check)
+            draft.change_key_check(at, change)
             yield draft.case("key check byte %d changed by %02x" % (at, change), 12)
     for length, key in KEYS.items():
         wrong = bytearray(key)
         wrong[-1] ^= 1
         file = three_jobs(key).file()
         yield Case("another key of %d bytes" % length, bytes(wrong), file, 12)
+
+
+def no_jobs():
+    """12 where no entry is left to check, alone and before 17; and 10 before both."""
+    for length, key in KEYS.items():
+        for tail in (0, 1, 16, 255, 256):
+            what = "no jobs, key %d, %d bytes after the plate" % (length, tail)
+            for at in (0, 7):
+                draft = Draft(key, 7, [])
+                draft.tail = bytes(tail)
+                draft.change_key_check(at, 1)
+                yield draft.case("%s, key check byte %d wrong" % (what, at), 12)
+                draft.extra_length = 1
+                yield draft.case("%s, key check byte %d and whole length wrong" % (what, at), 10)
+            draft = Draft(key, 7, [])
+            draft.tail = bytes(tail)
+            yield Case("%s, another key" % what, key[:-1] + b"\0", draft.file(), 12)
 
 
 def entries():
@@ -465,5 +485,5 @@ def random_changes(seed, count):
 
 def made():
     """Every case that was made for a known answer."""
-    for group in (good, key_lengths, file_lengths, plates, entries, pairs, pile):
+    for group in (good, key_lengths, file_lengths, plates, no_jobs, entries, pairs, pile):
         yield from group()
