@@ -4,8 +4,17 @@
 
 One line a case, `CASE: jobs N` or `CASE: refused N`. The cases are document 01's plate readings that
 are not marked P: under a good key files of 19 bytes, of 20 bytes with layout 2, of 65,537 bytes, and
-archives of 64 and 65 jobs of no bytes. Then a line an engine, `ENGINE, RFC 5794 A.1: HEX`: the
-appendix's block, encrypted.
+archives of 64 and 65 jobs of no bytes.
+
+Then a line a call on the sample archive, examples/sample:
+
+    find NUMBER: index I
+    directory: HEX
+    body of NUMBER: HEX
+    open NUMBER in N bytes: ANSWER, buffer HEX
+
+ANSWER is `bytes M` or `refused R`; the buffer of N bytes is shown whole, and had FILL everywhere
+before. Then a line an engine, `ENGINE, RFC 5794 A.1: HEX`: the appendix's block, encrypted.
 """
 
 import os
@@ -15,8 +24,10 @@ sys.path.insert(0, os.path.join(os.path.dirname(os.path.abspath(__file__)), ".."
 
 import archive  # noqa: E402
 import libcrypto  # noqa: E402
+import stored  # noqa: E402
 
 KEY = bytes(range(16))
+FILL = b"."
 BLOCK = bytes(0x11 * i for i in range(16))
 
 
@@ -46,8 +57,43 @@ def answer(file):
         return "refused %d" % refused.number
 
 
+def sample():
+    with open(os.path.join(stored.TOP, "examples/sample/archive.bin"), "rb") as file:
+        return file.read()
+
+
+def directory(file):
+    return file[archive.PLATE :][: archive.ENTRY * archive.check(KEY, file)]
+
+
+def body(file, number):
+    entry = archive.entry_at(file, archive.find(KEY, file, number))
+    return file[entry.start :][: entry.length]
+
+
+def opened(file, number, room):
+    buffer = FILL * room
+    try:
+        plain = archive.open_job(KEY, file, number, room)
+        return "bytes %d, buffer %s" % (len(plain), (plain + buffer[len(plain) :]).hex())
+    except archive.Refused as refused:
+        return "refused %d, buffer %s" % (refused.number, buffer.hex())
+
+
+def calls(file):
+    # the second job, whose index is not 0
+    yield "find 24000018", "index %d" % archive.find(KEY, file, b"24000018")
+    yield "directory", directory(file).hex()
+    yield "body of 24000017", body(file, b"24000017").hex()
+    # three bytes more than the body, then one fewer
+    for room in (8, 4):
+        yield "open 24000017 in %d bytes" % room, opened(file, b"24000017", room)
+
+
 if __name__ == "__main__":
     for case, file in cases():
         print("%s: %s" % (case, answer(file)))
+    for call, given in calls(sample()):
+        print("%s: %s" % (call, given))
     for engine in ("plain", "tables"):
         print("%s, RFC 5794 A.1: %s" % (engine, libcrypto.forward(KEY, BLOCK).hex()))

@@ -1,8 +1,11 @@
 // Runs the readings of 01, Plate readings, that are not marked P: files on both sides of the limits of checking, under a good key, each
-// good but for what its line names. Prints what checking answered. Then runs the block of RFC 5794, A.1, by each engine as
-// `roundtrip::run_by` picks it. tests/known_answers/make_expected.py makes the stored output from the model of the archive and from
-// libcrypto. The readings marked P are the one theorem of proofs/Readings.
+// good but for what its line names. Prints what checking answered. Then makes each other call of `archive` on the sample archive, and opens
+// once more into a buffer that is a byte short. Then runs the block of RFC 5794, A.1, by each engine as `roundtrip::run_by` picks it.
+// tests/known_answers/make_expected.py makes the stored output from the model of the archive and from libcrypto. The readings marked P are
+// the one theorem of proofs/Readings.
 use archive::Checked;
+use archive::Opened;
+use directory::Found;
 use expansion::Outcome;
 use libc::STDOUT_FILENO;
 use roundtrip::Engine;
@@ -12,6 +15,26 @@ const KEY: [u8; 16] = [0, 1, 2, 3, 4, 5, 6, 7, 8, 9, 10, 11, 12, 13, 14, 15];
 
 fn print(text: &[u8]) {
     io::write_all(STDOUT_FILENO, text);
+}
+
+fn print_hex(bytes: &[u8]) {
+    let mut i: usize = 0;
+    while i < bytes.len() {
+        io::print_hex(STDOUT_FILENO, octets::byte_at(bytes, i) as u64, 2);
+        i += 1;
+    }
+}
+
+// A line: the case, and bytes.
+fn print_line(case: &[u8], bytes: &[u8]) {
+    print(case);
+    print_hex(bytes);
+    print(b"\n");
+}
+
+fn print_number(text: &[u8], n: u64) {
+    print(text);
+    io::print_decimal(STDOUT_FILENO, n);
 }
 
 fn byte(n: usize) -> u8 {
@@ -99,14 +122,8 @@ fn print_check(case: &[u8], file: &[u8]) {
     let checked = archive::check(&key, file);
     print(case);
     match checked {
-        Checked::Jobs(n) => {
-            print(b"jobs ");
-            io::print_decimal(STDOUT_FILENO, n as u64);
-        }
-        Checked::Refused(n) => {
-            print(b"refused ");
-            io::print_decimal(STDOUT_FILENO, n as u64);
-        }
+        Checked::Jobs(n) => print_number(b"jobs ", n as u64),
+        Checked::Refused(n) => print_number(b"refused ", n as u64),
     }
     print(b"\n");
 }
@@ -136,6 +153,68 @@ fn count_65() {
     print_check(b"count 65: ", &file[0..1060]);
 }
 
+// The archive that docs/FORMAT.md works byte by byte, examples/sample/archive.bin: two jobs, of `dried` and of no bytes.
+fn sample_file() -> [u8; 57] {
+    let mut file = [0u8; 57];
+    octets::put(
+        &mut file,
+        0,
+        b"\x01\x10\x00\x02\x00\x00\x00\x07\x68\x5c\x67\x8e\x54\x5d\x7b\x37\x00\x00\x00\x39",
+    );
+    octets::put(&mut file, 20, b"24000017\x00\x00\x00\x34\x00\x00\x00\x05");
+    octets::put(&mut file, 36, b"24000018\x00\x00\x00\x39\x00\x00\x00\x00");
+    octets::put(&mut file, 52, b"\x71\xa8\x93\x2a\xa6");
+    file
+}
+
+// The second job, whose index is not 0.
+fn find_sample() {
+    let key = KEY;
+    let found = archive::find(&key, &sample_file(), b"24000018");
+    print(b"find 24000018: ");
+    match found {
+        Found::At(i) => print_number(b"index ", i as u64),
+        Found::Refused(n) => print_number(b"refused ", n as u64),
+    }
+    print(b"\n");
+}
+
+fn sample_directory() {
+    let key = KEY;
+    let file = sample_file();
+    print_line(b"directory: ", archive::directory(&key, &file));
+}
+
+fn sample_body() {
+    let key = KEY;
+    let file = sample_file();
+    print_line(
+        b"body of 24000017: ",
+        archive::body(&key, &file, b"24000017"),
+    );
+}
+
+// Opens the job of five bytes, and shows the buffer whole.
+fn open_sample(case: &[u8], buffer: &mut [u8]) {
+    let key = KEY;
+    let file = sample_file();
+    let opened = archive::open(&key, &file, b"24000017", buffer);
+    print(case);
+    match opened {
+        Opened::Bytes(n) => print_number(b"bytes ", n as u64),
+        Opened::Refused(n) => print_number(b"refused ", n as u64),
+    }
+    print_line(b", buffer ", buffer);
+}
+
+// Past the plain bytes, and where there is no room for them, the buffer keeps what it had.
+fn open_samples() {
+    let mut room = [b'.'; 8];
+    open_sample(b"open 24000017 in 8 bytes: ", &mut room);
+    let mut short = [b'.'; 4];
+    open_sample(b"open 24000017 in 4 bytes: ", &mut short);
+}
+
 // The plain block of RFC 5794, appendix A.
 fn rfc_block() -> [u8; 16] {
     [
@@ -158,11 +237,6 @@ fn rfc_block() -> [u8; 16] {
     ]
 }
 
-fn print_word(block: [u8; 16], at: u8) {
-    let word = octets::u32_at(&block, at);
-    io::print_hex(STDOUT_FILENO, word as u64, 8);
-}
-
 // A line: the engine, and what it makes of the block under the schedule of the key.
 fn print_run(case: &[u8], engine: Engine) {
     let key = KEY;
@@ -173,12 +247,7 @@ fn print_run(case: &[u8], engine: Engine) {
     };
     let mut block = rfc_block();
     roundtrip::run_by(engine, prepared.schedule, &mut block);
-    print(case);
-    print_word(block, 0);
-    print_word(block, 4);
-    print_word(block, 8);
-    print_word(block, 12);
-    print(b"\n");
+    print_line(case, &block);
 }
 
 fn main() {
@@ -187,6 +256,10 @@ fn main() {
     long_file();
     count_64();
     count_65();
+    find_sample();
+    sample_directory();
+    sample_body();
+    open_samples();
     print_run(b"plain, RFC 5794 A.1: ", Engine::Plain);
     print_run(b"tables, RFC 5794 A.1: ", Engine::Tables);
 }
