@@ -1,9 +1,14 @@
 // Runs the published vectors of ARIA by both engines, forward and back, and prints the bytes that it got: those of RFC 5794, appendix A,
-// with the round keys and decryption round keys of its three keys, and the ARIA test vectors of 2004. The stored output is another
-// implementation's; tests/vectors/make_expected.py makes it, and says what a line is.
+// with the words, round keys and decryption round keys of its three keys and the block after each round, and the ARIA test vectors of 2004.
+// The stored output is of other origin; tests/vectors/make_expected.py makes it, and says what a line is and where its bytes come from.
 use circuit::Schedule;
 use expansion::Outcome;
 use libc::STDOUT_FILENO;
+ghost use mathlib.Core.Path.{_≡_};
+ghost use Prim.Native.Nat.{_%_, _≤_};
+ghost use Rattle.boxes.specs.Boxes.{boxBy};
+ghost use Rattle.circuit.specs.Circuit.{roundAfter, rounds, circuit};
+ghost use Rattle.expansion.specs.KeySchedule.{wordsOf};
 
 // The key of RFC 5794, A.3; those of A.1 and A.2 are its first 16 and 24 bytes.
 const RFC_KEY: [u8; 32] = [
@@ -101,14 +106,10 @@ fn print(text: &[u8]) {
     io::write_all(STDOUT_FILENO, text);
 }
 
-fn wide(x: u8) -> u64 {
-    x as u64
-}
-
 fn print_hex(bytes: &[u8]) {
     let mut i: usize = 0;
     while i < bytes.len() {
-        io::print_hex(STDOUT_FILENO, wide(bytes[i]), 2);
+        io::print_hex(STDOUT_FILENO, octets::byte_at(bytes, i) as u64, 2);
         i += 1;
     }
 }
@@ -137,28 +138,107 @@ fn table_lines(name: &[u8], key: &[u8], run: &mut [u8]) {
     print_line(name, b" tables back ", run);
 }
 
-// A round key's line; keys are printed counted from 1.
-fn print_key(name: &[u8], case: &[u8], i: u64, key: [u8; 16]) {
+// The line of a block that has a number.
+fn print_block(name: &[u8], case: &[u8], i: usize, block: [u8; 16]) {
     print(name);
     print(case);
-    io::print_decimal(STDOUT_FILENO, i);
+    io::print_decimal(STDOUT_FILENO, i as u64);
     print(b" ");
-    print_hex(&key);
+    print_hex(&block);
     print(b"\n");
 }
 
-// The first n keys of a schedule.
+// W0 to W3 of a key, by the steps of `preparation`, which keeps them to itself; the contract says that they are the same.
+fn words(key: &[u8]) -> [[u8; 16]; 4]
+    ensures { λ r. ⌜ r ≡ wordsOf (now (key .entry)) ⌝ }
+{
+    let t = sbox::tables();
+    let ck = expansion::constants(key.len());
+    let w0 = blocks::load(key);
+    let kr = blocks::load(octets::part(key, 16, 16));
+    let w1 = blocks::xor(rounds::odd_round(&t, ck[0], w0), kr);
+    let w2 = blocks::xor(rounds::even_round(&t, ck[1], w1), w0);
+    let w3 = blocks::xor(rounds::odd_round(&t, ck[2], w2), w1);
+    [w0, w1, w2, w3]
+}
+
+fn word_lines(name: &[u8], key: &[u8]) {
+    let w = words(key);
+    print_block(name, b" word ", 0, w[0]);
+    print_block(name, b" word ", 1, w[1]);
+    print_block(name, b" word ", 2, w[2]);
+    print_block(name, b" word ", 3, w[3]);
+}
+
+// The first n keys of a schedule, counted from 1.
 fn print_keys(name: &[u8], case: &[u8], s: Schedule, n: usize) {
     let keys = s.keys;
     let mut i: usize = 0;
     while i < n {
         let key = circuit::round_key(&keys, i);
         i += 1;
-        print_key(name, case, i as u64, key);
+        print_block(name, case, i, key);
     }
 }
 
-// The n round keys of a key, and its decryption round keys.
+fn print_round(name: &[u8], i: usize, block: [u8; 16]) {
+    print_block(name, b" round ", i, block);
+}
+
+// The round that follows i rounds: odd after an even number.
+fn round_after(t: &[[u8; 256]; 4], i: usize, key: [u8; 16], block: [u8; 16]) -> [u8; 16]
+    ensures { λ r. ⌜ r ≡ roundAfter (boxBy (now (t .entry))) (i % 2) key block ⌝ }
+{
+    if i % 2 == 0 {
+        return rounds::odd_round(t, key, block);
+    }
+    rounds::even_round(t, key, block)
+}
+
+// A block after n rounds, before the last.
+fn after_rounds(t: &[[u8; 256]; 4], keys: &[u8; 272], n: usize, block: [u8; 16]) -> [u8; 16]
+    ensures { λ r. ⌜ r ≡ rounds (boxBy (now (t .entry))) (now (keys .entry)) n block ⌝ }
+{
+    let mut x = block;
+    let mut i: usize = 0;
+    while i < n {
+        let y = round_after(t, i, circuit::round_key(keys, i), x);
+        x = y;
+        i += 1;
+    }
+    x
+}
+
+// A block after n rounds, the last of them without A.
+fn after_last(t: &[[u8; 256]; 4], keys: &[u8; 272], n: usize, block: [u8; 16]) -> [u8; 16]
+    requires { ⌜ 1 ≤ n ⌝ }
+    ensures { λ r. ⌜ r ≡ circuit (boxBy (now (t .entry))) n (now (keys .entry)) block ⌝ }
+{
+    let i = n - 1;
+    let x = after_rounds(t, keys, i, block);
+    rounds::last_round(
+        t,
+        circuit::round_key(keys, i),
+        circuit::round_key(keys, n),
+        x,
+    )
+}
+
+// The RFC's block after each round, counted from 1.
+fn round_lines(name: &[u8], s: Schedule) {
+    let t = sbox::tables();
+    let keys = s.keys;
+    let n = s.rounds;
+    let block = RFC_BLOCK;
+    let mut i: usize = 1;
+    while i < n {
+        print_round(name, i, after_rounds(&t, &keys, i, block));
+        i += 1;
+    }
+    print_round(name, i, after_last(&t, &keys, i, block));
+}
+
+// The n round keys of a key, its decryption round keys, and the rounds.
 fn key_lines(name: &[u8], key: &[u8], n: usize) {
     let prepared = preparation::prepare(key);
     let outcome = prepared.outcome;
@@ -170,6 +250,7 @@ fn key_lines(name: &[u8], key: &[u8], n: usize) {
     let reversed = expansion::decryption_schedule(s);
     let t = reversed.schedule;
     print_keys(name, b" decryption-key ", t, n);
+    round_lines(name, s);
 }
 
 // A key of RFC 5794, appendix A, which has n round keys.
@@ -177,6 +258,7 @@ fn rfc_lines(name: &[u8], key: &[u8], n: usize) {
     let mut block = RFC_BLOCK;
     plain_lines(name, key, &mut block);
     table_lines(name, key, &mut block);
+    word_lines(name, key);
     key_lines(name, key, n);
 }
 

@@ -20,8 +20,8 @@ round-key-requires c κs = search needs
 add-i : tie.Need-add-i Inv-loop μ-loop
 add-i c = search needs
 
-print-key-requires : tie.Need-print-key-requires Inv-loop μ-loop
-print-key-requires c κs = search needs
+print-block-requires : tie.Need-print-block-requires Inv-loop μ-loop
+print-block-requires c κs = search needs
 
 loop-less : tie.Need-loop-less Inv-loop μ-loop
 loop-less c = search needs
@@ -41,7 +41,7 @@ print-keys-spec =
     loop-holds
     round-key-requires
     add-i
-    print-key-requires
+    print-block-requires
     loop-less
     loop-again
     returns)
