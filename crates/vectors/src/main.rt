@@ -8,7 +8,6 @@ ghost use mathlib.Core.Path.{_≡_};
 ghost use Prim.Native.Nat.{_%_, _≤_};
 ghost use Rattle.boxes.specs.Boxes.{boxBy};
 ghost use Rattle.circuit.specs.Circuit.{roundAfter, rounds, circuit};
-ghost use Rattle.expansion.specs.KeySchedule.{wordsOf};
 
 // The key of RFC 5794, A.3; those of A.1 and A.2 are its first 16 and 24 bytes.
 const RFC_KEY: [u8; 32] = [
@@ -148,22 +147,8 @@ fn print_block(name: &[u8], case: &[u8], i: usize, block: [u8; 16]) {
     print(b"\n");
 }
 
-// W0 to W3 of a key, by the steps of `preparation`, which keeps them to itself; the contract says that they are the same.
-fn words(key: &[u8]) -> [[u8; 16]; 4]
-    ensures { λ r. ⌜ r ≡ wordsOf (now (key .entry)) ⌝ }
-{
-    let t = sbox::tables();
-    let ck = expansion::constants(key.len());
-    let w0 = blocks::load(key);
-    let kr = blocks::load(octets::part(key, 16, 16));
-    let w1 = blocks::xor(rounds::odd_round(&t, ck[0], w0), kr);
-    let w2 = blocks::xor(rounds::even_round(&t, ck[1], w1), w0);
-    let w3 = blocks::xor(rounds::odd_round(&t, ck[2], w2), w1);
-    [w0, w1, w2, w3]
-}
-
 fn word_lines(name: &[u8], key: &[u8]) {
-    let w = words(key);
+    let w = preparation::words(key);
     print_block(name, b" word ", 0, w[0]);
     print_block(name, b" word ", 1, w[1]);
     print_block(name, b" word ", 2, w[2]);
