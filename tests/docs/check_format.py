@@ -1,0 +1,438 @@
+"""Sees that docs/FORMAT.md is true: its worked example, its cipher, its rule for hexadecimal, its names.
+
+    python3 tests/docs/check_format.py [PAGE]
+
+The example's bytes are those of examples/sample, its values of E libcrypto's, its listing what the
+program `jobs` is stored to print. The cipher below is written from the section "ARIA in short" alone
+and reads its numbers off the page; it must give the published vectors and libcrypto's bytes. Every
+definition that the page names stands in the file that it gives, and needs no name that the page does
+not explain or find in a file above it.
+"""
+
+import os
+import random
+import re
+import shutil
+import subprocess
+import sys
+
+TOP = os.path.normpath(os.path.join(os.path.dirname(os.path.abspath(__file__)), "..", ".."))
+sys.path.insert(0, os.path.join(TOP, "tests", "model"))
+
+import libcrypto  # noqa: E402
+
+CODE = re.compile(r"`([^`]+)`")
+HEX = re.compile(r"[0-9A-Fa-f ]+")
+BYTES = re.compile(r"[0-9a-f]{2}( [0-9a-f]{2})*")
+PLAIN = bytes(range(0x00, 0x100, 0x11))
+KEYS = [bytes(range(n)) for n in (16, 24, 32)]
+# Words of prose that are written with the letters a to f alone.
+WORDS = {"a", "be", "add", "added"}
+# Words of a paper that the reader does not have.
+FOREIGN = [r"\b[Pp]lates?\b", r"\b[Cc]ontents\b", r"\b[Dd]ocument \d+", r"\b0[12]\b", r"\b[Dd]emand \d", r"forward sealing"]
+ROOTS = ["scheduleOf", "encrypted", "counterBlock", "keystream", "addStream"]
+
+
+def read(path, mode="r"):
+    with open(os.path.join(TOP, path), mode, encoding=None if "b" in mode else "utf-8") as file:
+        return file.read()
+
+
+# ---- the page's parts
+
+
+class Page:
+    def __init__(self, text):
+        lines = text.splitlines()
+        self.text = text
+        self.indented = [block.strip("\n") for block in re.findall(r"(?:^    .*\n)+", text, re.M)]
+        self.prose = "\n".join(line for line in lines if not line.startswith("    "))
+        self.spans = CODE.findall(self.prose)
+        self.outside = CODE.sub("", self.prose)
+        self.words = CODE.sub(lambda span: "" if BYTES.fullmatch(span.group(1)) else span.group(1), self.text)
+
+    def section(self, title):
+        parts = re.split(r"^#+ (.*)\n", self.text, flags=re.M)
+        return Page(dict(zip(parts[1::2], parts[2::2]))[title])
+
+    def table(self, *heads):
+        """The cells of every row of every table that is headed so, in order."""
+        rows, within = [], False
+        for line in self.text.splitlines():
+            cells = [cell.strip() for cell in line.strip("|").split(" | ")]
+            if not line.startswith("|"):
+                within = False
+            elif within and not line.startswith("|---"):
+                rows.append(cells)
+            elif cells == list(heads):
+                within = True
+        if not rows:
+            raise LookupError("no table | %s |" % " | ".join(heads))
+        return rows
+
+
+def octets(cell):
+    """The bytes of a cell that is set in code type."""
+    digits = CODE.fullmatch(cell)
+    if not digits or not BYTES.fullmatch(digits.group(1)):
+        raise ValueError("%s is not bytes in code type" % cell)
+    return bytes.fromhex(digits.group(1))
+
+
+def records(path):
+    """The records of a file of vectors, each a paragraph of lines `name = value`."""
+    paragraphs = (re.findall(r"^(\w+) = (.*)$", part, re.M) for part in read(path).split("\n\n"))
+    return [dict(pairs) for pairs in paragraphs if pairs]
+
+
+def xor(left, right):
+    return bytes(x ^ y for x, y in zip(left, right))
+
+
+def key_of(cell):
+    """The key of a cell `the N bytes 00 to LAST`."""
+    n, first, last = re.fullmatch(r"the (\d+) bytes `(..)` to `(..)`", cell).groups()
+    key = bytes(range(int(first, 16), int(last, 16) + 1))
+    if len(key) != int(n):
+        raise ValueError("%s: these are %d bytes" % (cell, len(key)))
+    return key
+
+
+# ---- the rule for hexadecimal, and words of other papers
+
+
+def faults_of_writing(page):
+    for span in page.spans:
+        if HEX.fullmatch(span) and not BYTES.fullmatch(span):
+            yield "`%s` is in code type and is not bytes of two digits" % span
+        if re.search(r"0x[0-9A-Fa-f]", span):
+            yield "`%s` has another mark of hexadecimal" % span
+    for found in re.findall(r"`[0-9]+` (?:bytes|bits|rounds|jobs)\b", page.prose):
+        yield "%s: a count in code type" % found
+    for token in re.findall(r"[\w.]+", page.outside):
+        if re.fullmatch(r"[0-9]*[a-f][0-9a-f]*", token) and token not in WORDS or re.match(r"0x", token):
+            yield "%s is hexadecimal outside code type" % token
+    for word in FOREIGN:
+        for found in re.findall(word, page.words):
+            yield "%s: a word of a paper that the reader does not have" % found
+    if len(page.indented) != 2:
+        yield "%d indented blocks, where the page says two" % len(page.indented)
+
+
+def faults_of_refusals(page):
+    numbers = [int(row[0]) for row in page.section("Reading").table("number", "refused because")]
+    if numbers != [1] + list(range(5, 21)):
+        yield "the refusals are not 1 and 5 to 20 in order"
+
+
+# ---- the worked example
+
+
+def faults_of_sample(page):
+    """The rows are the sample's bytes, one after the other, and say the numbers that these are."""
+    file, at = read("examples/sample/archive.bin", "rb"), 0
+    for place, cell, meaning in page.table("position", "bytes", "meaning"):
+        if "`" not in cell:
+            continue
+        data = octets(cell)
+        last = at + len(data) - 1
+        if place != ("%d" % at if last == at else "%d to %d" % (at, last)):
+            yield "position %s: these bytes are %d to %d" % (place, at, last)
+        if file[at : last + 1] != data:
+            yield "position %s: the sample has %s" % (place, file[at : last + 1].hex(" "))
+        if "key check" not in meaning and "the body of" not in meaning:
+            said = data.decode() if data.isdigit() else "%d" % int.from_bytes(data, "big")
+            if not re.search(r"(?<!\d)%s(?!\d)" % said, meaning):
+                yield "position %s: the bytes are %s, the page says: %s" % (place, said, meaning)
+        at = last + 1
+    if at != len(file) or "archive.bin`, %d bytes" % at not in page.text:
+        yield "the sample has %d bytes, the page works %d" % (len(file), at)
+    key = read("examples/sample/key.bin", "rb")
+    if key.hex(" ") not in page.spans:
+        yield "the sample's key is not on the page"
+
+
+def faults_of_example(page):
+    """Counter blocks, keystream and plain bytes of the sample's job, by libcrypto."""
+    key, file = read("examples/sample/key.bin", "rb"), read("examples/sample/archive.bin", "rb")
+    rows = {label: octets(cell) for label, cell in page.table("job 24000017", "bytes")}
+    stream = b""
+    for index in (0, 1):
+        counter = file[4:8] + file[20:28] + index.to_bytes(4, "big")
+        stream += libcrypto.forward(key, counter)
+        if rows["counter block %d" % index] != counter:
+            yield "counter block %d is %s" % (index, counter.hex(" "))
+        if rows["E(counter block %d)" % index] != stream[16 * index :]:
+            yield "E(counter block %d) is %s" % (index, stream[16 * index :].hex(" "))
+    if rows["body"] != file[52:57]:
+        yield "the body is %s" % file[52:57].hex(" ")
+    if rows["keystream"] != stream[:5]:
+        yield "the keystream is %s" % stream[:5].hex(" ")
+    if rows["plain bytes"] != xor(rows["body"], rows["keystream"]) or rows["plain bytes"] != b"dried":
+        yield "the plain bytes are %s" % xor(rows["body"], rows["keystream"]).hex(" ")
+
+
+def faults_of_key_checks(page):
+    rows = page.table("key", "E(sixteen bytes `ff`)", "key check")
+    if [key_of(row[0]) for row in rows] != KEYS:
+        yield "the key checks are not those of the RFC's three keys"
+    for cell, whole, check in rows:
+        sealed = libcrypto.forward(key_of(cell), b"\xff" * 16)
+        if octets(whole) != sealed or octets(check) != sealed[:8]:
+            yield "%s: E of sixteen bytes ff is %s" % (cell, sealed.hex(" "))
+
+
+def faults_of_text(page):
+    """What `jobs` prints, and the command, which is run where its two programs are found."""
+    listing, command = ["\n".join(line[4:] for line in block.splitlines()) + "\n" for block in page.indented]
+    if listing != read("crates/jobs/stdout"):
+        yield "the listing is not crates/jobs/stdout"
+    block, key = re.search(r"printf (\w+) .* -aria-128-ecb -nopad -K (\w+) ", command, re.S).groups()
+    rows = dict(page.table("job 24000017", "bytes"))
+    sealed = libcrypto.forward(bytes.fromhex(key), bytes.fromhex(block))
+    if octets(rows["counter block 0"]).hex() != block or octets(rows["E(counter block 0)"]) != sealed:
+        yield "the command does not encrypt counter block 0"
+    if runs_command():
+        out = subprocess.run(["sh", "-c", command], capture_output=True, text=True)
+        if out.stdout.strip() != sealed.hex():
+            yield "the command prints %s%s" % (out.stdout.strip(), out.stderr.strip())
+
+
+def runs_command():
+    return all(shutil.which(program) for program in ("openssl", "xxd"))
+
+
+# ---- the cipher, from "ARIA in short" alone
+
+
+def doubled(x):
+    return (x << 1) & 0xFF ^ (0x1B if x & 0x80 else 0)
+
+
+def product(x, y):
+    total = 0
+    for bit in range(8):
+        if y >> bit & 1:
+            total ^= x
+        x = doubled(x)
+    return total
+
+
+def inverse(x):
+    return next((y for y in range(256) if product(x, y) == 1), 0)
+
+
+def rotated(block, side, places):
+    number = int.from_bytes(block, "big")
+    left = places if side == "left" else 128 - places
+    return (number << left & (1 << 128) - 1 | number >> 128 - left).to_bytes(16, "big")
+
+
+class Aria:
+    def __init__(self, page):
+        self.boxes = {}
+        for name, first, row in page.table("box", "first byte", "bytes 0 to 7"):
+            self.boxes[name] = self.table_of(octets(first)[0], octets(row))
+        self.boxes["S3"] = [self.boxes["S1"].index(y) for y in range(256)]
+        self.boxes["S4"] = [self.boxes["S2"].index(y) for y in range(256)]
+        rows = {}
+        for left, left_row, right, right_row in page.table("byte", "of bytes", "byte", "of bytes"):
+            rows[int(left)] = [int(i) for i in left_row.split()]
+            rows[int(right)] = [int(i) for i in right_row.split()]
+        self.rows = [rows[i] for i in range(16)]
+        constants = {name: octets(cell) for name, cell in page.table("constant", "bytes")}
+        self.lengths = {}
+        for size, rounds, order in page.table("key", "rounds, n", "K1, K2, K3"):
+            self.lengths[int(size.split()[0])] = (int(rounds), [constants[name] for name in order.split(", ")])
+        self.rotations = []
+        for keys, words in page.table("keys", "r"):
+            first, last = re.fullmatch(r"(\d+)(?: to (\d+))?", keys).groups()
+            side, places = re.fullmatch(r"(left|right) by (\d+) bits", words).groups()
+            self.rotations.append((int(first), int(last or first), side, int(places)))
+
+    @staticmethod
+    def table_of(first, row):
+        table = []
+        for x in range(256):
+            value, inverted = first, inverse(x)
+            for i in range(8):
+                value ^= row[i] if inverted >> i & 1 else 0
+            table.append(value)
+        if len(set(table)) != 256:
+            raise ValueError("a box has an entry twice")
+        return table
+
+    def layer(self, order, block):
+        return bytes(self.boxes[order[j % 4]][x] for j, x in enumerate(block))
+
+    def layer_one(self, block):
+        return self.layer(("S1", "S2", "S3", "S4"), block)
+
+    def layer_two(self, block):
+        return self.layer(("S3", "S4", "S1", "S2"), block)
+
+    def mixed(self, block):
+        out = []
+        for row in self.rows:
+            total = 0
+            for i in row:
+                total ^= block[i]
+            out.append(total)
+        return bytes(out)
+
+    def fo(self, block, k):
+        return self.mixed(self.layer_one(xor(block, k)))
+
+    def fe(self, block, k):
+        return self.mixed(self.layer_two(xor(block, k)))
+
+    def round_keys(self, key):
+        """Key 1 to key n + 1."""
+        rounds, (k1, k2, k3) = self.lengths[len(key)]
+        kl, kr = key[:16], key[16:].ljust(16, b"\0")
+        w0 = kl
+        w1 = xor(self.fo(w0, k1), kr)
+        w2 = xor(self.fe(w1, k2), w0)
+        w3 = xor(self.fo(w2, k3), w1)
+        keys = []
+        for first, last, side, places in self.rotations:
+            four = [(w0, w1), (w1, w2), (w2, w3), (w3, w0)]
+            if first != len(keys) + 1:
+                raise ValueError("the rows of round keys are not in order")
+            keys += [xor(plain, rotated(turned, side, places)) for plain, turned in four[: last - first + 1]]
+        return keys[: rounds + 1]
+
+    def encrypted(self, key, block):
+        keys = self.round_keys(key)
+        n = len(keys) - 1
+        for i in range(1, n):
+            block = (self.fo if i % 2 else self.fe)(block, keys[i - 1])
+        return xor(self.layer_two(xor(block, keys[n - 1])), keys[n])
+
+
+def faults_of_aria(page):
+    aria = Aria(page)
+    for name, *cells in page.table("box", "of `00`", "of `01`", "of `53`", "of `ff`"):
+        if [octets(cell)[0] for cell in cells] != [aria.boxes[name][x] for x in (0x00, 0x01, 0x53, 0xFF)]:
+            yield "the entries of %s are not the rule's" % name
+    published = [record for record in records("tests/data/aria-ecb.txt") if record["origin"].startswith("RFC 5794")]
+    vectors = page.table("key", "E(`%s`)" % PLAIN.hex(" "))
+    if [(key_of(cell), PLAIN, octets(out)) for cell, out in vectors] != [
+        tuple(bytes.fromhex(record[name]) for name in ("key", "in", "out")) for record in published
+    ]:
+        yield "the vectors are not the RFC's of tests/data/aria-ecb.txt"
+    for cell, out in vectors:
+        if aria.encrypted(key_of(cell), PLAIN) != octets(out):
+            yield "%s: the section gives %s" % (cell, aria.encrypted(key_of(cell), PLAIN).hex(" "))
+    stored = {record["key"]: record for record in records("tests/data/aria-round-keys.txt")}
+    for cell, first, last in page.table("key", "round key 1", "last round key"):
+        keys, record = aria.round_keys(key_of(cell)), stored[key_of(cell).hex()]
+        if [key.hex() for key in keys] != [value for name, value in record.items() if name.startswith("ek")]:
+            yield "%s: the section's round keys are not those of tests/data/aria-round-keys.txt" % cell
+        if [octets(first), octets(last)] != [keys[0], keys[-1]]:
+            yield "%s: the first and the last round key are not the section's" % cell
+    source = random.Random(5794)
+    for trial in range(96):
+        key, block = source.randbytes((16, 24, 32)[trial % 3]), source.randbytes(16)
+        if aria.encrypted(key, block) != libcrypto.forward(key, block):
+            yield "the section differs from libcrypto under key %s on block %s" % (key.hex(), block.hex())
+            return
+
+
+# ---- the project's definitions
+
+
+class Definitions:
+    """Of a file of definitions: each name with the text that defines it, and the names that come from elsewhere."""
+
+    def __init__(self, path):
+        text = re.sub(r"--.*", "", read(path))
+        self.used = set(", ".join(re.findall(r"^use \S+\.\{(.*)\}$", text, re.M)).split(", "))
+        self.bodies = {}
+        for chunk in re.split(r"\n\s*\n", text):
+            for name, body in re.findall(r"^ *(?:unfoldable |abbrev )?pub (\S+) : (.*)", chunk, re.M | re.S):
+                self.bodies[name] = body
+
+
+def signs(text):
+    """The words of a text, operators by their bare sign."""
+    return set(re.findall(r"[^\s(){}\[\].,;]+|\[\]", text))
+
+
+def bare(name):
+    return name.strip("_") or name
+
+
+def faults_of_definitions(page):
+    """The definitions that the page names, and that these need, are all in its files, in its order, or explained."""
+    rows = page.table("file", "what it defines", "names")
+    files = [CODE.fullmatch(row[0]).group(1) for row in rows]
+    parsed = [Definitions(path) for path in files]
+    for (_, _, names), path, found in zip(rows, files, parsed):
+        for name in CODE.findall(names):
+            if name not in found.bodies:
+                yield "%s does not define `%s`" % (path, name)
+    explained = signs(" ".join(CODE.findall(page.text.split("What the signs mean:")[1])))
+    home = {name: at for at, found in enumerate(parsed) for name in found.bodies}
+    ahead, seen = [name for name in ROOTS if name in home], set()
+    if len(ahead) != len(ROOTS):
+        yield "the files do not define all of %s" % ", ".join(ROOTS)
+    while ahead:
+        name = ahead.pop()
+        if name in seen:
+            continue
+        seen.add(name)
+        at, words = home[name], signs(parsed[home[name]].bodies[name])
+        for other in parsed[at].used | set(parsed[at].bodies):
+            if bare(other) not in words:
+                continue
+            if other in home and home[other] > at:
+                yield "%s: `%s` stands on %s, which comes later" % (files[at], name, files[home[other]])
+            elif other in home:
+                ahead.append(other)
+            elif bare(other) not in explained:
+                yield "%s: `%s` needs `%s`, which the page neither finds nor explains" % (files[at], name, other)
+
+
+def faults_of_paths(page):
+    for span in page.spans:
+        if re.fullmatch(r"[\w./-]+/[\w./-]+", span) and not os.path.exists(os.path.join(TOP, span)):
+            yield "there is no %s" % span
+
+
+def main():
+    page = Page(read(sys.argv[1] if len(sys.argv) > 1 else "docs/FORMAT.md"))
+    checks = (
+        faults_of_writing,
+        faults_of_refusals,
+        faults_of_sample,
+        faults_of_example,
+        faults_of_key_checks,
+        faults_of_text,
+        faults_of_aria,
+        faults_of_definitions,
+        faults_of_paths,
+    )
+    wrong = []
+    for check in checks:
+        try:
+            wrong += list(check(page))
+        except (LookupError, ValueError, AttributeError, OSError) as error:
+            wrong.append("%s: %s" % (check.__name__, error))
+    for fault in wrong:
+        print("docs/FORMAT.md: " + fault)
+    if wrong:
+        sys.exit(1)
+    spans = sum(1 for span in page.spans if BYTES.fullmatch(span))
+    seen = [
+        "the example is the sample's and libcrypto's",
+        "ARIA in short gives the RFC's vectors",
+        "its definitions are found",
+        "%d spans of bytes keep the rule" % spans,
+        "the command was run" if runs_command() else "the command was not run, for want of openssl or xxd",
+    ]
+    print("docs/FORMAT.md: " + ", ".join(seen))
+
+
+if __name__ == "__main__":
+    main()
