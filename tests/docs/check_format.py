@@ -20,6 +20,7 @@ TOP = os.path.normpath(os.path.join(os.path.dirname(os.path.abspath(__file__)), 
 sys.path.insert(0, os.path.join(TOP, "tests", "model"))
 
 import libcrypto  # noqa: E402
+from records import records  # noqa: E402
 
 CODE = re.compile(r"`([^`]+)`")
 HEX = re.compile(r"[0-9A-Fa-f ]+")
@@ -29,7 +30,7 @@ KEYS = [bytes(range(n)) for n in (16, 24, 32)]
 # Words of prose that are written with the letters a to f alone.
 WORDS = {"a", "be", "add", "added"}
 # Words of a paper that the reader does not have.
-FOREIGN = [r"\b[Pp]lates?\b", r"\b[Cc]ontents\b", r"\b[Dd]ocument \d+", r"\b0[12]\b", r"\b[Dd]emand \d", r"forward sealing"]
+FOREIGN = [r"\b[Pp]lates?\b", r"\b[Cc]ontents\b", r"\b[Dd]ocument \d+", r"\b0[12]\b", r"\b[Dd]emand \d"]
 ROOTS = ["scheduleOf", "encrypted", "counterBlock", "keystream", "addStream"]
 
 
@@ -77,12 +78,6 @@ def octets(cell):
     if not digits or not BYTES.fullmatch(digits.group(1)):
         raise ValueError("%s is not bytes in code type" % cell)
     return bytes.fromhex(digits.group(1))
-
-
-def records(path):
-    """The records of a file of vectors, each a paragraph of lines `name = value`."""
-    paragraphs = (re.findall(r"^(\w+) = (.*)$", part, re.M) for part in read(path).split("\n\n"))
-    return [dict(pairs) for pairs in paragraphs if pairs]
 
 
 def xor(left, right):
@@ -315,7 +310,7 @@ def faults_of_aria(page):
     for name, *cells in page.table("box", "of `00`", "of `01`", "of `53`", "of `ff`"):
         if [octets(cell)[0] for cell in cells] != [aria.boxes[name][x] for x in (0x00, 0x01, 0x53, 0xFF)]:
             yield "the entries of %s are not the rule's" % name
-    published = [record for record in records("tests/data/aria-ecb.txt") if record["origin"].startswith("RFC 5794")]
+    published = [record for record in records(TOP + "/tests/data/aria-ecb.txt") if record["origin"].startswith("RFC 5794")]
     vectors = page.table("key", "E(`%s`)" % PLAIN.hex(" "))
     if [(key_of(cell), PLAIN, octets(out)) for cell, out in vectors] != [
         tuple(bytes.fromhex(record[name]) for name in ("key", "in", "out")) for record in published
@@ -324,7 +319,7 @@ def faults_of_aria(page):
     for cell, out in vectors:
         if aria.encrypted(key_of(cell), PLAIN) != octets(out):
             yield "%s: the section gives %s" % (cell, aria.encrypted(key_of(cell), PLAIN).hex(" "))
-    stored = {record["key"]: record for record in records("tests/data/aria-round-keys.txt")}
+    stored = {record["key"]: record for record in records(TOP + "/tests/data/aria-round-keys.txt")}
     for cell, first, last in page.table("key", "round key 1", "last round key"):
         keys, record = aria.round_keys(key_of(cell)), stored[key_of(cell).hex()]
         if [key.hex() for key in keys] != [value for name, value in record.items() if name.startswith("ek")]:
