@@ -5,8 +5,8 @@
 The example's bytes are those of examples/sample, its values of E libcrypto's, its listing what the
 program `jobs` is stored to print. The cipher below is written from the section "ARIA in short" alone
 and reads its numbers off the page; it must give the published vectors and libcrypto's bytes. Every
-definition that the page names stands in the file that it gives, and needs no name that the page does
-not explain or find in a file above it.
+definition that the page names stands in the file that it gives, needs no name that the page does not
+explain or find in a file above it, and gives the vectors too, computed by definitions.py.
 """
 
 import os
@@ -19,6 +19,7 @@ import sys
 TOP = os.path.normpath(os.path.join(os.path.dirname(os.path.abspath(__file__)), "..", ".."))
 sys.path.insert(0, os.path.join(TOP, "tests", "model"))
 
+import definitions  # noqa: E402
 import libcrypto  # noqa: E402
 from records import records  # noqa: E402
 
@@ -310,7 +311,8 @@ def faults_of_aria(page):
     for name, *cells in page.table("box", "of `00`", "of `01`", "of `53`", "of `ff`"):
         if [octets(cell)[0] for cell in cells] != [aria.boxes[name][x] for x in (0x00, 0x01, 0x53, 0xFF)]:
             yield "the entries of %s are not the rule's" % name
-    published = [record for record in records(TOP + "/tests/data/aria-ecb.txt") if record["origin"].startswith("RFC 5794")]
+    stored = records(TOP + "/tests/data/aria-ecb.txt")
+    published = [record for record in stored if record["origin"].startswith("RFC 5794")]
     vectors = page.table("key", "E(`%s`)" % PLAIN.hex(" "))
     if [(key_of(cell), PLAIN, octets(out)) for cell, out in vectors] != [
         tuple(bytes.fromhex(record[name]) for name in ("key", "in", "out")) for record in published
@@ -337,56 +339,64 @@ def faults_of_aria(page):
 # ---- the project's definitions
 
 
-class Definitions:
-    """Of a file of definitions: each name with the text that defines it, and the names that come from elsewhere."""
-
-    def __init__(self, path):
-        text = re.sub(r"--.*", "", read(path))
-        self.used = set(", ".join(re.findall(r"^use \S+\.\{(.*)\}$", text, re.M)).split(", "))
-        self.bodies = {}
-        for chunk in re.split(r"\n\s*\n", text):
-            for name, body in re.findall(r"^ *(?:unfoldable |abbrev )?pub (\S+) : (.*)", chunk, re.M | re.S):
-                self.bodies[name] = body
-
-
-def signs(text):
-    """The words of a text, operators by their bare sign."""
-    return set(re.findall(r"[^\s(){}\[\].,;]+|\[\]", text))
-
-
-def bare(name):
-    return name.strip("_") or name
-
-
 def faults_of_definitions(page):
     """The definitions that the page names, and that these need, are all in its files, in its order, or explained."""
     rows = page.table("file", "what it defines", "names")
-    files = [CODE.fullmatch(row[0]).group(1) for row in rows]
-    parsed = [Definitions(path) for path in files]
-    for (_, _, names), path, found in zip(rows, files, parsed):
+    paths = [CODE.fullmatch(row[0]).group(1) for row in rows]
+    files = [definitions.File(read(path)) for path in paths]
+    for (_, _, names), path, file in zip(rows, paths, files):
         for name in CODE.findall(names):
-            if name not in found.bodies:
+            if name not in file.bodies:
                 yield "%s does not define `%s`" % (path, name)
-    explained = signs(" ".join(CODE.findall(page.text.split("What the signs mean:")[1])))
-    home = {name: at for at, found in enumerate(parsed) for name in found.bodies}
-    ahead, seen = [name for name in ROOTS if name in home], set()
-    if len(ahead) != len(ROOTS):
-        yield "the files do not define all of %s" % ", ".join(ROOTS)
+    spans = CODE.findall(page.text.split("What the signs mean:")[1])
+    explained = {definitions.bare(sign) for span in spans for sign in definitions.signs(span)}
+    for name in sorted(set(definitions.GIVEN) - explained):
+        yield "`%s` is computed by tests/docs/definitions.py, and the page does not explain it" % name
+    home = {name: at for at, file in enumerate(files) for name in file.bodies}
+    ahead, seen = list(ROOTS), set()
     while ahead:
         name = ahead.pop()
         if name in seen:
             continue
         seen.add(name)
-        at, words = home[name], signs(parsed[home[name]].bodies[name])
-        for other in parsed[at].used | set(parsed[at].bodies):
-            if bare(other) not in words:
+        at = home[name]
+        words = set(definitions.signs(files[at].bodies[name]))
+        for other in sorted(files[at].taken | set(files[at].bodies)):
+            if definitions.bare(other) not in words:
                 continue
             if other in home and home[other] > at:
-                yield "%s: `%s` stands on %s, which comes later" % (files[at], name, files[home[other]])
+                yield "%s: `%s` stands on %s, which comes later" % (paths[at], name, paths[home[other]])
             elif other in home:
                 ahead.append(other)
-            elif bare(other) not in explained:
-                yield "%s: `%s` needs `%s`, which the page neither finds nor explains" % (files[at], name, other)
+            elif definitions.bare(other) not in explained:
+                yield "%s: `%s` needs `%s`, which the page neither finds nor explains" % (paths[at], name, other)
+
+
+def faults_of_computing(page):
+    """The definitions, computed by what the page says of their signs, give its boxes, the vectors and the sample."""
+    paths = [CODE.fullmatch(row[0]).group(1) for row in page.table("file", "what it defines", "names")]
+    names = definitions.names_of([definitions.File(read(path)) for path in paths])
+
+    def computed(name, *arguments):
+        return definitions.deep(lambda: definitions.value(names, name, *arguments))
+
+    for name, table in Aria(page).boxes.items():
+        if computed(name.lower()) != tuple(table):
+            yield "%s of the definitions is not the page's" % name
+    for cell, out in page.table("key", "E(`%s`)" % PLAIN.hex(" ")):
+        schedule = computed("scheduleOf", tuple(key_of(cell)))
+        given = bytes(computed("encrypted", schedule, tuple(PLAIN)))
+        if given != octets(out):
+            yield "%s: the definitions give %s" % (cell, given.hex(" "))
+    file = tuple(read("examples/sample/archive.bin", "rb"))
+    schedule = computed("scheduleOf", tuple(read("examples/sample/key.bin", "rb")))
+    stream = computed("keystream", schedule, file[4:8] + file[20:28])
+    rows = dict(page.table("job 24000017", "bytes"))
+    for at in (0, 15, 16, 31):
+        if definitions.deep(lambda: stream(at)) != octets(rows["E(counter block %d)" % (at // 16)])[at % 16]:
+            yield "the definitions give another byte %d of the keystream" % at
+    if bytes(computed("addStream", stream, 0, file[52:57])) != b"dried":
+        yield "the definitions do not open the sample"
 
 
 def faults_of_paths(page):
@@ -406,13 +416,14 @@ def main():
         faults_of_text,
         faults_of_aria,
         faults_of_definitions,
+        faults_of_computing,
         faults_of_paths,
     )
     wrong = []
     for check in checks:
         try:
             wrong += list(check(page))
-        except (LookupError, ValueError, AttributeError, OSError) as error:
+        except (LookupError, ValueError, AttributeError, TypeError, OSError) as error:
             wrong.append("%s: %s" % (check.__name__, error))
     for fault in wrong:
         print("docs/FORMAT.md: " + fault)
@@ -422,7 +433,7 @@ def main():
     seen = [
         "the example is the sample's and libcrypto's",
         "ARIA in short gives the RFC's vectors",
-        "its definitions are found",
+        "so do the definitions",
         "%d spans of bytes keep the rule" % spans,
         "the command was run" if runs_command() else "the command was not run, for want of openssl or xxd",
     ]
