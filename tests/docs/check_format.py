@@ -201,21 +201,18 @@ def runs_command():
 # ---- the cipher, from "ARIA in short" alone
 
 
-def doubled(x):
-    return (x << 1) & 0xFF ^ (0x1B if x & 0x80 else 0)
-
-
-def product(x, y):
+def product(x, y, lost):
+    """The product of two bytes; `lost` is what a bit becomes that is lost in doubling."""
     total = 0
     for bit in range(8):
         if y >> bit & 1:
             total ^= x
-        x = doubled(x)
+        x = (x << 1) & 0xFF ^ (lost if x & 0x80 else 0)
     return total
 
 
-def inverse(x):
-    return next((y for y in range(256) if product(x, y) == 1), 0)
+def inverse(x, lost):
+    return next((y for y in range(256) if product(x, y, lost) == 1), 0)
 
 
 def rotated(block, side, places):
@@ -227,10 +224,13 @@ def rotated(block, side, places):
 class Aria:
     def __init__(self, page):
         self.boxes = {}
+        lost = int(re.search(r"if a bit is lost at the top, ⊕ `(..)`", page.text).group(1), 16)
+        inverses = [inverse(x, lost) for x in range(256)]
         for name, first, row in page.table("box", "first byte", "bytes 0 to 7"):
-            self.boxes[name] = self.table_of(octets(first)[0], octets(row))
+            self.boxes[name] = self.table_of(inverses, octets(first)[0], octets(row))
         self.boxes["S3"] = [self.boxes["S1"].index(y) for y in range(256)]
         self.boxes["S4"] = [self.boxes["S2"].index(y) for y in range(256)]
+        self.orders = [order.split(", ") for order in re.findall(r"through (S\d, S\d, S\d, S\d)\b", page.text)]
         rows = {}
         for left, left_row, right, right_row in page.table("byte", "of bytes", "byte", "of bytes"):
             rows[int(left)] = [int(i) for i in left_row.split()]
@@ -247,10 +247,10 @@ class Aria:
             self.rotations.append((int(first), int(last or first), side, int(places)))
 
     @staticmethod
-    def table_of(first, row):
+    def table_of(inverses, first, row):
         table = []
-        for x in range(256):
-            value, inverted = first, inverse(x)
+        for inverted in inverses:
+            value = first
             for i in range(8):
                 value ^= row[i] if inverted >> i & 1 else 0
             table.append(value)
@@ -262,10 +262,10 @@ class Aria:
         return bytes(self.boxes[order[j % 4]][x] for j, x in enumerate(block))
 
     def layer_one(self, block):
-        return self.layer(("S1", "S2", "S3", "S4"), block)
+        return self.layer(self.orders[0], block)
 
     def layer_two(self, block):
-        return self.layer(("S3", "S4", "S1", "S2"), block)
+        return self.layer(self.orders[1], block)
 
     def mixed(self, block):
         out = []
@@ -328,6 +328,13 @@ def faults_of_aria(page):
             yield "%s: the section's round keys are not those of tests/data/aria-round-keys.txt" % cell
         if [octets(first), octets(last)] != [keys[0], keys[-1]]:
             yield "%s: the first and the last round key are not the section's" % cell
+    for cell, whole, _ in page.table("key", "E(sixteen bytes `ff`)", "key check"):
+        if aria.encrypted(key_of(cell), b"\xff" * 16) != octets(whole):
+            yield "%s: the section gives another E(sixteen bytes ff)" % cell
+    rows = dict(page.table("job 24000017", "bytes"))
+    for block in ("counter block 0", "counter block 1"):
+        if aria.encrypted(KEYS[0], octets(rows[block])) != octets(rows["E(%s)" % block]):
+            yield "the section gives another E(%s)" % block
     source = random.Random(5794)
     for trial in range(96):
         key, block = source.randbytes((16, 24, 32)[trial % 3]), source.randbytes(16)
