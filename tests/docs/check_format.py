@@ -321,11 +321,11 @@ def faults_of_aria(page):
     for cell, out in vectors:
         if aria.encrypted(key_of(cell), PLAIN) != octets(out):
             yield "%s: the section gives %s" % (cell, aria.encrypted(key_of(cell), PLAIN).hex(" "))
-    stored = {record["key"]: record for record in records(TOP + "/tests/data/aria-round-keys.txt")}
+    stored = {record["key"]: record for record in records(TOP + "/tests/data/aria-intermediate.txt")}
     for cell, first, last in page.table("key", "round key 1", "last round key"):
         keys, record = aria.round_keys(key_of(cell)), stored[key_of(cell).hex()]
         if [key.hex() for key in keys] != [value for name, value in record.items() if name.startswith("ek")]:
-            yield "%s: the section's round keys are not those of tests/data/aria-round-keys.txt" % cell
+            yield "%s: the section's round keys are not those of tests/data/aria-intermediate.txt" % cell
         if [octets(first), octets(last)] != [keys[0], keys[-1]]:
             yield "%s: the first and the last round key are not the section's" % cell
     for cell, whole, _ in page.table("key", "E(sixteen bytes `ff`)", "key check"):
