@@ -7,7 +7,8 @@ archive as a file or through a pipe in turn; some go through a slow pipe in smal
 written is compared. The last line is `archive model: N cases agree`, or says how many differ, and
 then the exit status is 1.
 
-Refusal 20 is not met here: no body is longer than 65,536 bytes, and `open` lends that much.
+Refusal 20 is not met here: no body is longer than 65,536 bytes, and `open` lends that much. The program
+`known_answers` meets it.
 """
 
 import argparse

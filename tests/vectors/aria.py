@@ -13,7 +13,7 @@ C3 = 0xDB92371D2126E9700324977504E8C90E
 ROUNDS = {16: 12, 24: 14, 32: 16}
 CONSTANTS = {16: (C1, C2, C3), 24: (C2, C3, C1), 32: (C3, C1, C2)}
 
-# places to the right by which words are rotated into round keys; the last three are 61, 31 and 19 to the left
+# places to the right that a word is rotated by in a round key; the last three are 61, 31, 19 to the left
 ROTATIONS = (19, 31, 128 - 61, 128 - 31, 128 - 19)
 
 # A, the diffusion layer: output byte i is the exclusive-or of the input bytes that row i names
@@ -32,7 +32,7 @@ def inverses():
 
 
 def box(columns, constant):
-    """The inverse through an affine map: the constant, and a column for each bit that is set, lowest first."""
+    """The inverse through an affine map: the constant, and a column for each bit set, lowest first."""
     values = [constant] * 256
     for x, inverse in enumerate(inverses()):
         for bit, column in enumerate(bytes.fromhex(columns)):

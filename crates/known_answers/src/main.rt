@@ -168,9 +168,8 @@ fn sample_file() -> [u8; 57] {
 }
 
 // The second job, whose index is not 0.
-fn find_sample() {
-    let key = KEY;
-    let found = archive::find(&key, &sample_file(), b"24000018");
+fn print_found(key: &[u8], file: &[u8]) {
+    let found = archive::find(key, file, b"24000018");
     print(b"find 24000018: ");
     match found {
         Found::At(i) => print_number(b"index ", i as u64),
@@ -179,26 +178,9 @@ fn find_sample() {
     print(b"\n");
 }
 
-fn sample_directory() {
-    let key = KEY;
-    let file = sample_file();
-    print_line(b"directory: ", archive::directory(&key, &file));
-}
-
-fn sample_body() {
-    let key = KEY;
-    let file = sample_file();
-    print_line(
-        b"body of 24000017: ",
-        archive::body(&key, &file, b"24000017"),
-    );
-}
-
 // Opens the job of five bytes, and shows the buffer whole.
-fn open_sample(case: &[u8], buffer: &mut [u8]) {
-    let key = KEY;
-    let file = sample_file();
-    let opened = archive::open(&key, &file, b"24000017", buffer);
+fn print_opened(case: &[u8], key: &[u8], file: &[u8], buffer: &mut [u8]) {
+    let opened = archive::open(key, file, b"24000017", buffer);
     print(case);
     match opened {
         Opened::Bytes(n) => print_number(b"bytes ", n as u64),
@@ -207,12 +189,20 @@ fn open_sample(case: &[u8], buffer: &mut [u8]) {
     print_line(b", buffer ", buffer);
 }
 
-// Past the plain bytes, and where there is no room for them, the buffer keeps what it had.
-fn open_samples() {
+// Each call once, and opening with a byte too few. A buffer keeps what it had past the plain bytes, and where it is too short.
+fn sample_calls() {
+    let key = KEY;
+    let file = sample_file();
+    print_found(&key, &file);
+    print_line(b"directory: ", archive::directory(&key, &file));
+    print_line(
+        b"body of 24000017: ",
+        archive::body(&key, &file, b"24000017"),
+    );
     let mut room = [b'.'; 8];
-    open_sample(b"open 24000017 in 8 bytes: ", &mut room);
+    print_opened(b"open 24000017 in 8 bytes: ", &key, &file, &mut room);
     let mut short = [b'.'; 4];
-    open_sample(b"open 24000017 in 4 bytes: ", &mut short);
+    print_opened(b"open 24000017 in 4 bytes: ", &key, &file, &mut short);
 }
 
 // The plain block of RFC 5794, appendix A.
@@ -256,10 +246,7 @@ fn main() {
     long_file();
     count_64();
     count_65();
-    find_sample();
-    sample_directory();
-    sample_body();
-    open_samples();
+    sample_calls();
     print_run(b"plain, RFC 5794 A.1: ", Engine::Plain);
     print_run(b"tables, RFC 5794 A.1: ", Engine::Tables);
 }
