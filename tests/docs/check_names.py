@@ -1,73 +1,109 @@
-"""Sees that every promise of docs/ASSURANCE.md is found under the name and in the files that it gives.
+"""Sees that every promise of docs/ASSURANCE.md is said, and proved, in the files that its row names.
 
     python3 tests/docs/check_names.py
 
-Of each row `| promise | name | file |`, every file must exist, and every word of the name column
-that is set as code must stand in one of the files, or, for a contract, in the source of their crates.
+A row is `| promise | name | definition | proof |`, with paths from crates/. The name is one of
+
+    `THEOREM : STATEMENT`         the definition's file defines a word of the statement, and the proof's
+                                  file has the line `pub THEOREM : STATEMENT`
+    `WORD` of `CRATE::FUNCTION`   the function's `ensures` names WORD, the definition's file defines it, and
+                                  the proof is the function's own, with `pub FUNCTION-spec :`; or it is
+                                  made by the prover, and then there is no such file
+
+That the proofs hold is for rt to say: it refuses a file that it does not prove. Beside the rows, every
+public function must have an `ensures` and no `requires`.
 """
 
+import glob
 import os
 import re
 import sys
 
 TOP = os.path.join(os.path.dirname(os.path.abspath(__file__)), "..", "..")
-CODE = re.compile(r"`([^`]+)`")
-
-
-def rows(text):
-    for line in text.splitlines():
-        cells = [cell.strip() for cell in line.strip("|").split(" | ")]
-        if line.startswith("| ") and len(cells) == 3 and CODE.search(cells[2]):
-            yield [cell.strip() for cell in cells]
-
-
-def files_of(cell):
-    """The paths of a cell; one that does not begin at the top is of the crate of the one before."""
-    crate = ""
-    for path in CODE.findall(cell):
-        if path.startswith("crates/"):
-            crate = "/".join(path.split("/")[:2])
-        elif "/" in path:
-            path = crate + "/" + path
-        else:
-            path = crate + "/specs/" + path
-        yield path
-
-
-def sources_of(path):
-    folder = os.path.join(TOP, *path.split("/")[:2], "src")
-    return [os.path.join(folder, name) for name in sorted(os.listdir(folder))]
+UNDER_TITLE = "\n|---|---|---|---|\n"
+THEOREM = re.compile(r"`([\w-]+) : ([^`]+)`")
+CONTRACT = re.compile(r"`(\S+)` of `(\w+)::(\w+)`")
+HEAD = re.compile(r'^((?:pub )?(?:extern "C" )?fn (\w+).*?)\{$', re.M | re.S)
+MADE = "made by the prover"
 
 
 def read(path):
-    with open(path, encoding="utf-8") as file:
+    """The text of a file, by its path from crates/; empty where there is none."""
+    place = os.path.join(TOP, "crates", path)
+    if not os.path.isfile(place):
+        return ""
+    with open(place, encoding="utf-8") as file:
         return file.read()
 
 
-def faults(row):
-    _, names, cell = row
-    paths = list(files_of(cell))
-    missing = [path for path in paths if not os.path.isfile(os.path.join(TOP, path))]
-    if missing:
-        return ["no file %s" % path for path in missing]
-    text = "".join(read(os.path.join(TOP, path)) for path in paths)
-    text += "".join(read(source) for path in paths for source in sources_of(path))
-    words = [word.split("::")[-1] for code in CODE.findall(names) for word in code.split(" : ")]
-    return ["`%s` is not in %s" % (word, cell) for word in words if not stands(word, text)]
+def heads(crate):
+    """By name, what stands before the body of each function: its arguments and its contract."""
+    sources = glob.glob(os.path.join(TOP, "crates", crate, "src", "*.rt"))
+    return {name: head for source in sources for head, name in HEAD.findall(read(source))}
 
 
-def stands(word, text):
-    return re.search(r"(?<![\w-])%s(?![\w-])" % re.escape(word), text)
+def defines(path, word):
+    return re.search(r"^(abbrev |unfoldable )?pub (record )?_?%s_? " % re.escape(word), read(path), re.M)
+
+
+def theorem_faults(name, statement, definition, proof):
+    if not any(defines(definition, word) for word in statement.split()):
+        yield "%s defines no word of %s" % (definition, statement)
+    # not indented: inside a module it might be under assumptions
+    if not re.search(r"^pub %s : %s$" % (re.escape(name), re.escape(statement)), read(proof), re.M):
+        yield "%s has no theorem %s : %s" % (proof, name, statement)
+
+
+def contract_faults(word, crate, function, definition, proof):
+    if word not in re.split(r"[\s()]+", heads(crate).get(function, "").partition("ensures")[2]):
+        yield "the contract of %s::%s does not name %s" % (crate, function, word)
+    if not defines(definition, word):
+        yield "%s does not define %s" % (definition, word)
+    own = ["%s/proofs/%s%s/Proof.antt" % (crate, mark, function) for mark in ("", "+")]
+    if proof == MADE:
+        if any(map(read, own)):
+            yield "the proof of %s::%s is not made by the prover: there is a file" % (crate, function)
+    elif proof not in own or not re.search(r"^pub \+?%s-spec :" % function.replace("_", "-"), read(proof), re.M):
+        yield "%s has no proof of %s::%s" % (proof, crate, function)
+
+
+def row_faults(row):
+    cells = [cell.strip() for cell in row.strip("|").split("|")]
+    if len(cells) != 4:
+        return ["no row of four cells: %s" % row]
+    name, files = cells[1], [cell.strip("`") for cell in cells[2:]]
+    theorem, contract = THEOREM.fullmatch(name), CONTRACT.fullmatch(name)
+    if theorem:
+        return list(theorem_faults(*theorem.groups(), *files))
+    if contract:
+        return list(contract_faults(*contract.groups(), *files))
+    return ["neither a theorem nor a contract: %s" % name]
+
+
+def rows(text):
+    """The rows of every table of four columns."""
+    for table in text.split(UNDER_TITLE)[1:]:
+        yield from table.split("\n\n")[0].splitlines()
+
+
+def call_faults():
+    for crate in sorted(os.listdir(os.path.join(TOP, "crates"))):
+        for function, head in heads(crate).items():
+            if head.startswith("pub ") and ("requires" in head or "ensures" not in head):
+                yield "%s::%s is public, and has a requires or no ensures" % (crate, function)
 
 
 def main():
-    table = list(rows(read(os.path.join(TOP, "docs", "ASSURANCE.md"))))
-    found = [fault for row in table for fault in faults(row)]
-    for fault in found:
+    with open(os.path.join(TOP, "docs", "ASSURANCE.md"), encoding="utf-8") as file:
+        found = [row_faults(row) for row in rows(file.read())]
+    calls = list(call_faults())
+    for fault in sum(found, calls):
         print(fault)
-    if found or not table:
-        sys.exit("docs/ASSURANCE.md: %d of its names are not found" % len(found))
-    print("docs/ASSURANCE.md: %d promises are found under their names" % len(table))
+    failed = len([faults for faults in found if faults])
+    if failed or calls or not found:
+        sys.stdout.flush()
+        sys.exit("docs/ASSURANCE.md: of %d promises %d are not as their rows say" % (len(found), failed))
+    print("docs/ASSURANCE.md: %d promises are said and proved where their rows say" % len(found))
 
 
 if __name__ == "__main__":
