@@ -1,0 +1,92 @@
+"""Counts the tests, for docs/TESTING.md.
+
+    python3 tests/docs/count_tests.py                  prints the table of figures
+    python3 tests/docs/count_tests.py --write FILE     puts it between the two marks of FILE
+    python3 tests/docs/count_tests.py --check FILE     sees that it stands there
+
+Nothing is run but the model's making of archives.
+"""
+
+import argparse
+import glob
+import os
+import re
+import sys
+
+TOP = os.path.normpath(os.path.join(os.path.dirname(os.path.abspath(__file__)), "..", ".."))
+sys.path.insert(0, os.path.join(TOP, "tests", "model"))
+
+import cases  # noqa: E402
+import run  # noqa: E402
+
+BEGIN = "<!-- figures: counted by tests/docs/count_tests.py -->\n"
+END = "<!-- figures: end -->\n"
+
+
+def read(path):
+    with open(os.path.join(TOP, path), encoding="utf-8") as file:
+        return file.read()
+
+
+def found(pattern):
+    return sorted(glob.glob(os.path.join(TOP, pattern), recursive=True))
+
+
+def count(line, pattern):
+    """How many lines match, in all files of a pattern."""
+    return sum(len(re.findall(line, read(path), re.M)) for path in found(pattern))
+
+
+def figures():
+    edits = found("crates/*/must-fail/*.edit")
+    of_definitions = [path for path in edits if re.search(r"^file: specs/", read(path), re.M)]
+    yield "crates", count(r"^\w+:", "crates.txt")
+    yield "functions", count(r'^(?:pub )?(?:extern "C" )?fn ', "crates/*/src/*.rt")
+    yield "of these proved by a file of their own", len(found("crates/*/proofs/*/Proof.antt"))
+    yield "must-fail edits", len(edits)
+    yield "of these with a changed definition", len(of_definitions)
+    yield "crates with edits", len({os.path.dirname(path) for path in edits})
+    for program in ("vectors", "known_answers"):
+        yield "lines that `%s` is to print" % program, count("^.", "crates/%s/stdout" % program)
+    yield "stored cases of `jobs`", len(found("tests/jobs/*/stdin"))
+    made, changed = list(cases.made()), list(cases.changes())
+    chosen = list(cases.random_changes(0, run.RANDOM_CASES))
+    yield "archives of the model made for one answer", len(made)
+    yield "archives of the model with one byte changed", len(changed)
+    yield "random archives of the model", len(chosen)
+    yield "distinct ones among all these", len({case.file for case in made + changed + chosen})
+    yield "self-tests of the model", count(r"^    def test_", "tests/model/selftest.py")
+    for path in found("host/tests/*.rs"):
+        name = os.path.relpath(path, TOP)
+        yield "tests of `%s`" % name, count(r"^#\[test\]", name)
+
+
+def table():
+    rows = ["| %s | %s |\n" % (name, format(number, ",")) for name, number in figures()]
+    return "| what | how many |\n|---|---|\n" + "".join(rows)
+
+
+def main():
+    parser = argparse.ArgumentParser(description=__doc__.splitlines()[0])
+    action = parser.add_mutually_exclusive_group()
+    action.add_argument("--write", metavar="FILE")
+    action.add_argument("--check", metavar="FILE")
+    wanted = parser.parse_args()
+    path = wanted.write or wanted.check
+    if not path:
+        return print(table(), end="")
+    before, begin, rest = read(path).partition(BEGIN)
+    between, end, after = rest.partition(END)
+    if not begin or not end:
+        sys.exit("%s: the two marks of the figures are not found" % path)
+    if wanted.write:
+        with open(os.path.join(TOP, path), "w", encoding="utf-8") as file:
+            file.write(before + begin + table() + end + after)
+    elif between != table():
+        sys.exit("%s: the figures are not true; python3 tests/docs/count_tests.py --write %s" % (path, path))
+    else:
+        print("%s: the figures are true" % path)
+
+
+if __name__ == "__main__":
+    main()
