@@ -107,10 +107,10 @@ class Stored(unittest.TestCase):
             self.assertEqual(read(path), data, path)
 
     def test_no_other_stored_case(self):
-        kept = set(os.path.dirname(path) for path in stored.stored())
+        kept = set(os.path.dirname(path) for path in stored.stored() if path.startswith("tests/jobs/"))
         folder = os.path.join(stored.TOP, "tests/jobs")
         found = {e.name for e in os.scandir(folder) if e.is_dir() and e.name != "__pycache__"}
-        self.assertEqual({"tests/jobs/" + name for name in found} | {"examples/sample"}, kept)
+        self.assertEqual({"tests/jobs/" + name for name in found}, kept)
 
     def test_worked_example_of_the_format(self):
         """The bytes worked through in docs/FORMAT.md are the sample's, in order."""

@@ -1,4 +1,4 @@
-"""The stored cases of tests/jobs and the sample archive: writes them anew.
+"""The stored cases of tests/jobs, the sample archive and what the programs are run on by rt: writes them anew.
 
     python3 tests/model/stored.py
 
@@ -35,6 +35,11 @@ def stored():
     many = cases.Draft(cases.KEYS[32], 7, cases.numbered(range(64)))
     files.update(_case("64-jobs", many.key, many.file()))
     files.update(_case("65537-bytes", too_long.key, too_long.file()))
+    for crate in ("jobs", "open"):
+        files["crates/%s/stdin" % crate] = sample.file()
+        files["crates/%s/data/key.bin" % crate] = sample.key
+    files["crates/jobs/stdout"] = archive.jobs_text(sample.key, sample.file())
+    files["crates/open/stdout"] = archive.open_job(sample.key, sample.file(), b"24000017")
     return files
 
 

@@ -12,7 +12,7 @@ ghost use Rattle.listing.specs.Text.{refusedWord, field, numberLine, job
 ghost use Rattle.listing.specs.Listing.{listingText, Holds};
 ghost use Rattle.listing.specs.Internal.{Lays, Printable};
 
-// A text at the front of a buffer, with zeros behind it. There is room for a first line of 8 bytes and 64 lines of 21; no listing is longer.
+// A text at the front of a buffer, with zeros behind it: room for a first line of 8 bytes and 64 lines of 21, and no listing is longer.
 pub struct Listing {
     pub length: usize,
     pub text: [u8; 1352],
