@@ -11,7 +11,8 @@
  * Both calls give the same bytes and the same answers; they differ in speed alone. Each call prepares
  * its key anew, which takes as long as several blocks do, so hand over long runs. aria_run_tables also
  * makes larger tables first, and then takes less time for a block: it is faster from about four blocks
- * on, and on long runs takes two thirds of the time. On fewer blocks aria_run_plain is faster.
+ * on (where the two cross varies between one block and ten), and on long runs takes two thirds of the
+ * time. On fewer blocks aria_run_plain is faster.
  *
  * A call keeps no state, allocates nothing and may be made from several threads at once, as long as
  * no other thread touches its key or its run meanwhile. It takes about 6 KiB of stack (plain) or 18 KiB
@@ -38,7 +39,7 @@ extern "C" {
 #define ARIA_BACK UINT32_C(1)    /* decrypt */
 
 /* Answers: ARIA_OK, or the first refusal that applies, in this order. The numbers leave gaps because
- * they are those of the delivery's list of refusals, of which a block run can give three. */
+ * they are those of the README's list of refusals, of which a block run can give three. */
 #define ARIA_OK UINT32_C(0)
 #define ARIA_REFUSED_KEY_LENGTH UINT32_C(1) /* the key is not 16, 24 or 32 bytes long */
 #define ARIA_REFUSED_DIRECTION UINT32_C(2)  /* the direction is neither 0 nor 1 */

@@ -62,12 +62,15 @@ mod ffi {
     }
 }
 
-/// Which of the two proved engines does the work. Both give the same bytes and the same answers.
+/// Which of the proved engines does the work. All give the same bytes and the same answers.
 ///
 /// `Plain` is the faster one on a few blocks. `Tables` is from about four blocks on, and takes two
 /// thirds of the time on long runs. So it was measured, with the key prepared in each call; where the
 /// two cross varies from one process to the next, between one block and ten.
+///
+/// A later version may have further engines, so a `match` on one needs an arm for the rest.
 #[derive(Clone, Copy, Debug, PartialEq, Eq, Hash)]
+#[non_exhaustive]
 pub enum Engine {
     /// Byte boxes, and the diffusion layer byte by byte: for runs of a few blocks.
     Plain,
@@ -76,18 +79,20 @@ pub enum Engine {
 }
 
 impl Engine {
-    /// Both engines, for code that compares them.
+    /// Every engine, for code that compares them.
     ///
     /// ```
-    /// use aria_host::{encrypt, Engine};
+    /// use aria_host::{encrypt, Engine, Refusal};
     ///
-    /// let results = Engine::ALL.map(|engine| {
-    ///     let mut run = [0; 32];
-    ///     encrypt(engine, b"sixteen key byte", &mut run).map(|()| run)
-    /// });
-    /// assert_eq!(results[0], results[1]);
+    /// for &engine in Engine::ALL {
+    ///     let (mut one, mut other) = ([0; 32], [0; 32]);
+    ///     encrypt(Engine::Plain, b"sixteen key byte", &mut one)?;
+    ///     encrypt(engine, b"sixteen key byte", &mut other)?;
+    ///     assert_eq!(one, other);
+    /// }
+    /// # Ok::<(), Refusal>(())
     /// ```
-    pub const ALL: [Engine; 2] = [Engine::Plain, Engine::Tables];
+    pub const ALL: &'static [Engine] = &[Engine::Plain, Engine::Tables];
 }
 
 /// Encryption or decryption.
@@ -145,7 +150,7 @@ pub enum Refusal {
 }
 
 impl Refusal {
-    /// The delivery's number for it.
+    /// Its number in the README's list of refusals.
     ///
     /// ```
     /// use aria_host::Refusal;

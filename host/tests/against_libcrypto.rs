@@ -31,7 +31,7 @@ fn compare(engine: Engine, key: &[u8], direction: Direction, input: &[u8], offse
 fn everywhere(mut test: impl FnMut(usize, Direction, Engine)) {
     for key_len in KEY_LENGTHS {
         for direction in Direction::ALL {
-            for engine in Engine::ALL {
+            for &engine in Engine::ALL {
                 test(key_len, direction, engine);
             }
         }
@@ -91,7 +91,7 @@ fn keys_and_blocks_of_one_repeated_byte() {
 fn random_keys_directions_lengths_and_starts() {
     let mut random = Random::seeded("random_keys_directions_lengths_and_starts");
     for _ in 0..RANDOM_CASES {
-        let engine = random.pick(&Engine::ALL);
+        let engine = random.pick(Engine::ALL);
         let direction = random.pick(&Direction::ALL);
         let key_len = random.pick(&KEY_LENGTHS);
         let key = random.bytes(key_len);
@@ -110,7 +110,7 @@ fn back_undoes_forward_in_every_pairing_of_engines() {
             Direction::Forward => Direction::Back,
             Direction::Back => Direction::Forward,
         };
-        for other in Engine::ALL {
+        for &other in Engine::ALL {
             let key = random.bytes(key_len);
             let input = random.bytes(16 * 33);
             let mut bytes = input.clone();

@@ -45,7 +45,7 @@ fn try_call(engine: Engine, key: &[u8], direction: u32, input: &[u8]) {
 #[test]
 fn every_key_length_direction_and_some_run_lengths() {
     let mut random = Random::seeded("every_key_length_direction_and_some_run_lengths");
-    for engine in Engine::ALL {
+    for &engine in Engine::ALL {
         for key_len in 0..=64 {
             for direction in DIRECTIONS {
                 for run_len in [0, 1, 8, 15, 16, 17, 31, 32, 33] {
@@ -61,7 +61,7 @@ fn every_key_length_direction_and_some_run_lengths() {
 #[test]
 fn every_run_length_to_five_blocks() {
     let mut random = Random::seeded("every_run_length_to_five_blocks");
-    for engine in Engine::ALL {
+    for &engine in Engine::ALL {
         for key_len in [16, 24, 32] {
             for direction in DIRECTIONS {
                 for run_len in 0..=80 {
@@ -76,7 +76,7 @@ fn every_run_length_to_five_blocks() {
 
 #[test]
 fn directions_with_one_bit_set() {
-    for engine in Engine::ALL {
+    for &engine in Engine::ALL {
         for bit in 0..32 {
             try_call(engine, &[0x3c; 16], 1 << bit, &[0x5a; 48]);
         }
@@ -92,7 +92,7 @@ fn the_typed_calls_refuse_alike() {
         encrypt,
         decrypt,
     ];
-    for engine in Engine::ALL {
+    for &engine in Engine::ALL {
         for call in calls {
             let mut bytes = [0x5a; 40];
             assert_eq!(call(engine, &[0; 15], &mut bytes), Err(Refusal::KeyLength));

@@ -54,7 +54,7 @@ fn the_file_has_each_key_length_of_both_origins() {
 #[test]
 fn both_engines_give_the_published_bytes() {
     for v in vectors() {
-        for engine in Engine::ALL {
+        for &engine in Engine::ALL {
             let mut bytes = v.plain.clone();
             assert_eq!(run(engine, &v.key, Direction::Forward, &mut bytes), Ok(()));
             assert_eq!(bytes, v.sealed, "{}, {engine:?} forward", v.origin);
@@ -67,7 +67,7 @@ fn both_engines_give_the_published_bytes() {
 #[test]
 fn encrypt_and_decrypt_give_the_published_bytes() {
     for v in vectors() {
-        for engine in Engine::ALL {
+        for &engine in Engine::ALL {
             let mut bytes = v.plain.clone();
             assert_eq!(encrypt(engine, &v.key, &mut bytes), Ok(()));
             assert_eq!(bytes, v.sealed, "{}, {engine:?} encrypt", v.origin);

@@ -7,8 +7,10 @@ block set as `text` is what the command before it has to end in. A block that no
 untried. The commands must leave nothing new in the top folder.
 """
 
+import errno
 import os
 import re
+import shlex
 import shutil
 import subprocess
 import sys
@@ -16,6 +18,7 @@ import tempfile
 
 TOP = os.path.realpath(os.path.join(os.path.dirname(os.path.abspath(__file__)), "..", ".."))
 SAMPLE = os.path.join(TOP, "examples", "sample")
+FAULTS = os.path.join(TOP, "tests", "programs", "faults.c")
 BLOCK = re.compile(r"^```(\w*)\n(.*?)^```$", re.M | re.S)
 PRINTS = re.compile(r"^It prints `(.*)`\.$", re.M)
 
@@ -30,8 +33,15 @@ def expect(what, seen, wanted):
         sys.exit("README.md: %s\n  says   %r\n  gives  %r" % (what, wanted, seen))
 
 
-def run(command, folder, status=0):
-    done = subprocess.run(["bash", "-c", command], cwd=folder, stdin=subprocess.DEVNULL, capture_output=True, text=True)
+def run(command, folder, status=0, **variables):
+    done = subprocess.run(
+        ["bash", "-c", command],
+        cwd=folder,
+        env={**os.environ, **variables},
+        stdin=subprocess.DEVNULL,
+        capture_output=True,
+        text=True,
+    )
     if done.returncode != status:
         sys.exit("README.md: %s\n  ended with %d\n%s%s" % (command, done.returncode, done.stdout[-2000:], done.stderr[-2000:]))
     return done
@@ -89,6 +99,12 @@ def opening_recipe(command, scratch):
     expect("the recipe on a refusal", (done.stdout, done.stderr, os.path.exists(plain)), ("", "refused 19\n", False))
     done = run(command.replace("< archive.bin", "< .") + "echo went on", folder, status=1)
     expect("the recipe on a read error", (done.stdout, done.stderr, os.path.exists(plain)), ("", "open: could not read\n", False))
+    # the disk is full after two bytes: then no other file would hold what was said
+    faults = os.path.join(scratch, "faults.so")
+    run("cc -shared -fPIC %s -o %s -ldl" % (shlex.quote(FAULTS), shlex.quote(faults)), scratch)
+    done = run(command + "echo went on", folder, status=1, LD_PRELOAD=faults, FAULT="write 1 2 %d 1" % errno.ENOSPC)
+    expect("the recipe on a full disk", (done.stdout, done.stderr, os.path.exists(plain)), ("", "open: could not write\n", False))
+    expect("what the recipe leaves", sorted(os.listdir(folder)), sorted(os.listdir(SAMPLE)))
 
 
 def rust_program(source, dependency, printed, scratch):
@@ -119,7 +135,7 @@ def main():
                 hexadecimal(body, scratch)
             elif kind == "sh" and body.startswith("listing="):
                 listing_recipe(body, scratch)
-            elif kind == "sh" and "bin/open" in body:
+            elif kind == "sh" and body.startswith("said="):
                 opening_recipe(body, scratch)
             elif kind == "rust":
                 rust_program(body, texts["toml"][0], PRINTS.search(text).group(1), scratch)
