@@ -3,10 +3,11 @@
     python3 tests/docs/check_format.py [PAGE]
 
 The example's bytes are those of examples/sample, its values of E libcrypto's, its listing what the
-program `jobs` is stored to print. The cipher below is written from the section "ARIA in short" alone
-and reads its numbers off the page; it must give the published vectors and libcrypto's bytes. Every
-definition that the page names stands in the file that it gives, needs no name that the page does not
-explain or find in a file above it, and gives the vectors too, computed by definitions.py.
+program `jobs` is stored to print. The cipher below is written from the section "ARIA in short" alone,
+apart from the model of tests/vectors, and reads its tables, constants and rotations off the page; it
+must give the published vectors and libcrypto's bytes. Every definition that the page names stands in
+the file that it gives, needs no name that the page does not explain or find in a file above it, and
+gives the vectors too, computed by definitions.py.
 """
 
 import os
@@ -19,6 +20,7 @@ import sys
 TOP = os.path.normpath(os.path.join(os.path.dirname(os.path.abspath(__file__)), "..", ".."))
 sys.path.insert(0, os.path.join(TOP, "tests", "model"))
 
+import archive  # noqa: E402
 import definitions  # noqa: E402
 import libcrypto  # noqa: E402
 from records import records  # noqa: E402
@@ -119,6 +121,33 @@ def faults_of_refusals(page):
     numbers = [int(row[0]) for row in page.section("Reading").table("number", "refused because")]
     if numbers != [1] + list(range(5, 21)):
         yield "the refusals are not 1 and 5 to 20 in order"
+
+
+def faults_of_layout(page):
+    """Fields follow each other without gaps, parts are as long as the model's, and so are the limits."""
+    parts = (
+        ("Header, %d bytes" % archive.PLATE, "position", archive.PLATE),
+        ("Directory, %d bytes a job" % archive.ENTRY, "position in the entry", archive.ENTRY),
+        ("Bodies", "position in the block", 16),
+    )
+    for title, place, size in parts:
+        at = 0
+        for position, length, _ in page.section(title).table(place, "bytes", "meaning"):
+            if int(position) != at:
+                yield "%s: position %s should be %d" % (title, position, at)
+            at += int(length)
+        if at != size:
+            yield "%s: the fields have %d bytes" % (title, at)
+    said = dict(page.section("Reading").table("number", "refused because"))
+    limits = {
+        "5": "the file is shorter than %d bytes" % archive.PLATE,
+        "6": "the file is longer than {:,} bytes".format(archive.LONGEST_FILE),
+        "9": "the count exceeds %d" % archive.MOST_JOBS,
+        "11": "%d + %d × count exceeds the file's length" % (archive.PLATE, archive.ENTRY),
+    }
+    for number, reason in limits.items():
+        if said[number] != reason:
+            yield "refusal %s should say: %s" % (number, reason)
 
 
 # ---- the worked example
@@ -296,6 +325,10 @@ class Aria:
             if first != len(keys) + 1:
                 raise ValueError("the rows of round keys are not in order")
             keys += [xor(plain, rotated(turned, side, places)) for plain, turned in four[: last - first + 1]]
+            if len(keys) != last:
+                raise ValueError("a row of round keys has more than four")
+        if len(keys) <= rounds:
+            raise ValueError("%d rounds have no %d round keys" % (rounds, rounds + 1))
         return keys[: rounds + 1]
 
     def encrypted(self, key, block):
@@ -417,6 +450,7 @@ def main():
     checks = (
         faults_of_writing,
         faults_of_refusals,
+        faults_of_layout,
         faults_of_sample,
         faults_of_example,
         faults_of_key_checks,

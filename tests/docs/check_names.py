@@ -10,8 +10,9 @@ A row is `| promise | name | definition | proof |`, with paths from crates/. The
                                   the proof is the function's own, with `pub FUNCTION-spec :`; or it is
                                   made by the prover, and then there is no such file
 
-That the proofs hold is for rt to say: it refuses a file that it does not prove. Beside the rows, every
-public function must have an `ensures` and no `requires`.
+That the proofs hold is for rt to say: it refuses a file that it does not prove. Whether a contract is
+strong enough is for its reader, and for the must-fail edits. Beside the rows, every public function
+must have an `ensures` and no `requires`.
 """
 
 import glob
@@ -20,7 +21,7 @@ import re
 import sys
 
 TOP = os.path.join(os.path.dirname(os.path.abspath(__file__)), "..", "..")
-UNDER_TITLE = "\n|---|---|---|---|\n"
+UNDER_TITLE = re.compile(r"\n\|(?: *:?-+:? *\|){4}\n")
 THEOREM = re.compile(r"`([\w-]+) : ([^`]+)`")
 CONTRACT = re.compile(r"`(\S+)` of `(\w+)::(\w+)`")
 HEAD = re.compile(r'^((?:pub )?(?:extern "C" )?fn (\w+).*?)\{$', re.M | re.S)
@@ -28,18 +29,22 @@ MADE = "made by the prover"
 
 
 def read(path):
-    """The text of a file, by its path from crates/; empty where there is none."""
+    """The text of a file without its comments, by its path from crates/; empty where there is none."""
     place = os.path.join(TOP, "crates", path)
     if not os.path.isfile(place):
         return ""
     with open(place, encoding="utf-8") as file:
-        return file.read()
+        text = re.sub(r"\{-.*?-\}", "", file.read(), flags=re.S)
+    return re.sub(r"(--|//).*", "", text)
+
+
+def sources(crate):
+    return [read(path) for path in glob.glob(os.path.join(TOP, "crates", crate, "src", "**", "*.rt"), recursive=True)]
 
 
 def heads(crate):
-    """By name, what stands before the body of each function: its arguments and its contract."""
-    sources = glob.glob(os.path.join(TOP, "crates", crate, "src", "*.rt"))
-    return {name: head for source in sources for head, name in HEAD.findall(read(source))}
+    """Each function's name, with what stands before its body: its arguments and its contract."""
+    return [(name, head) for text in sources(crate) for head, name in HEAD.findall(text)]
 
 
 def defines(path, word):
@@ -55,7 +60,7 @@ def theorem_faults(name, statement, definition, proof):
 
 
 def contract_faults(word, crate, function, definition, proof):
-    if word not in re.split(r"[\s()]+", heads(crate).get(function, "").partition("ensures")[2]):
+    if word not in re.split(r"[\s()]+", dict(heads(crate)).get(function, "").partition("ensures")[2]):
         yield "the contract of %s::%s does not name %s" % (crate, function, word)
     if not defines(definition, word):
         yield "%s does not define %s" % (definition, word)
@@ -82,14 +87,17 @@ def row_faults(row):
 
 def rows(text):
     """The rows of every table of four columns."""
-    for table in text.split(UNDER_TITLE)[1:]:
+    for table in UNDER_TITLE.split(text)[1:]:
         yield from table.split("\n\n")[0].splitlines()
 
 
 def call_faults():
     for crate in sorted(os.listdir(os.path.join(TOP, "crates"))):
-        for function, head in heads(crate).items():
-            if head.startswith("pub ") and ("requires" in head or "ensures" not in head):
+        public = sum(len(re.findall(r"\bpub\b[^;{\n]*\bfn\b", text)) for text in sources(crate))
+        if public != sum(head.startswith("pub ") for _, head in heads(crate)):
+            yield "%s has a public function in a layout that is not read here" % crate
+        for function, head in heads(crate):
+            if head.count("fn ") > 1 or head.startswith("pub ") and ("requires" in head or "ensures" not in head):
                 yield "%s::%s is public, and has a requires or no ensures" % (crate, function)
 
 

@@ -6,8 +6,6 @@ The record is the line `Checked with `..`` of docs/ASSURANCE.md. Another toolcha
 so it is a warning and no failure; it is a failure if there is no record. The other tools are printed for the log.
 """
 
-import ctypes
-import ctypes.util
 import os
 import platform
 import re
@@ -15,16 +13,13 @@ import subprocess
 import sys
 
 TOP = os.path.join(os.path.dirname(os.path.abspath(__file__)), "..", "..")
+sys.path.insert(0, os.path.join(TOP, "tests", "model"))
+
+import libcrypto  # noqa: E402
 
 
 def first_line(*command):
     return subprocess.run(command, stdout=subprocess.PIPE, text=True, check=True).stdout.splitlines()[0]
-
-
-def libcrypto():
-    library = ctypes.CDLL(ctypes.util.find_library("crypto"))
-    library.OpenSSL_version.restype = ctypes.c_char_p
-    return library.OpenSSL_version(0).decode()
 
 
 def main():
@@ -37,7 +32,7 @@ def main():
     print("cc: %s" % first_line("cc", "--version"))
     print("cargo: %s" % first_line("cargo", "--version"))
     print("python: %s" % platform.python_version())
-    print("libcrypto: %s" % libcrypto())
+    print("libcrypto: %s" % libcrypto.version())
     if found == record.group(1):
         print("the prover is the one that docs/ASSURANCE.md records")
     else:

@@ -3,8 +3,8 @@
     python3 tests/docs/run_readme.py
 
 Every block of README.md set as `sh`, `rust` or `toml` is run or used, in a folder of its own where it is not for the top folder, and a
-block set as `text` is what the command before it has to end in. A block that no check here knows is a fault, so that no command goes
-untried. The commands must leave nothing new in the top folder.
+block set as `text` is what the command before it has to end in. A block that no check here knows is a fault, so that no block of commands
+goes untried. The commands must leave nothing new in the top folder.
 """
 
 import errno
@@ -24,7 +24,7 @@ PRINTS = re.compile(r"^It prints `(.*)`\.$", re.M)
 
 
 def read(path, mode="r"):
-    with open(path, mode) as file:
+    with open(path, mode, encoding=None if "b" in mode else "utf-8") as file:
         return file.read()
 
 
@@ -35,9 +35,9 @@ def expect(what, seen, wanted):
 
 def run(command, folder, status=0, **variables):
     done = subprocess.run(
-        ["bash", "-c", command],
+        ["bash", "-e", "-c", command],
         cwd=folder,
-        env={**os.environ, **variables},
+        env={**os.environ, "LC_ALL": "C", **variables},
         stdin=subprocess.DEVNULL,
         capture_output=True,
         text=True,
@@ -124,7 +124,10 @@ def rust_program(source, dependency, printed, scratch):
 def main():
     text = read(os.path.join(TOP, "README.md"))
     blocks = BLOCK.findall(text)
-    texts = {kind: [body for of, body in blocks if of == kind] for kind in ("toml", "rust")}
+    kinds = [kind for kind, _ in blocks]
+    if re.search(r"^(~~~|    \S)", BLOCK.sub("", text), re.M) or (kinds.count("toml"), kinds.count("rust")) != (1, 1):
+        sys.exit("README.md: a block is set otherwise than this check knows")
+    dependency = blocks[kinds.index("toml")][1]
     tried = 0
     for at, (kind, body) in enumerate(blocks):
         following = blocks[at + 1][1] if blocks[at + 1 : at + 2] and blocks[at + 1][0] == "text" else None
@@ -138,9 +141,11 @@ def main():
             elif kind == "sh" and body.startswith("said="):
                 opening_recipe(body, scratch)
             elif kind == "rust":
-                rust_program(body, texts["toml"][0], PRINTS.search(text).group(1), scratch)
+                rust_program(body, dependency, PRINTS.search(text).group(1), scratch)
             elif kind not in ("text", "toml"):
                 sys.exit("README.md: no check here runs\n%s" % body)
+            if following and not body.startswith("rt "):
+                sys.exit("README.md: nothing here compares what follows\n%s" % body)
             tried += kind in ("sh", "rust")
     print("README.md: %d commands and examples do what it says" % tried)
 

@@ -14,7 +14,8 @@ import subprocess
 import sys
 
 TOP = os.path.abspath(os.path.join(os.path.dirname(os.path.abspath(__file__)), "..", ".."))
-PREFIX = os.path.join(TOP, "target", "prefix")
+# from the top folder, so that a checkout may lie in a folder whose name has spaces
+PREFIX = "target/prefix"
 # A block of commands, and the block after it that says what they print.
 BLOCKS = re.compile(r"^( *)```sh\n(.*?)^ *```\n(?:\n^ *```text\n(.*?)^ *```\n)?", re.M | re.S)
 WARNINGS = ["-Wall", "-Wextra", "-Werror", "-pedantic"]
@@ -27,7 +28,7 @@ LANGUAGES = {"C99": ["cc", "-std=c99"], "C++11": ["c++", "-std=c++11", "-x", "c+
 
 def run(command):
     """What the command prints; it ends the test where it fails or complains."""
-    done = subprocess.run(command, cwd=TOP, env={**os.environ, "PREFIX": PREFIX}, capture_output=True, text=True)
+    done = subprocess.run(command, cwd=TOP, env={**os.environ, "PREFIX": PREFIX, "LC_ALL": "C"}, capture_output=True, text=True)
     if done.returncode or done.stderr:
         sys.exit("%s\nexit status %d\n%s%s" % (command[-1], done.returncode, done.stdout, done.stderr))
     return done.stdout
@@ -40,7 +41,11 @@ def lines(text):
 def run_document(missing):
     """How many blocks of commands ran; those that need a missing tool are left out."""
     with open(os.path.join(TOP, "docs", "LINKING.md"), encoding="utf-8") as file:
-        blocks = BLOCKS.findall(file.read())
+        text = file.read()
+    blocks = BLOCKS.findall(text)
+    kinds = re.findall(r"^ *(?:```|~~~)(.*)$", text, re.M)[::2]
+    if sorted(kinds) != sorted(["sh"] * len(blocks) + ["text"] * sum(1 for block in blocks if block[2])) or not blocks:
+        sys.exit("docs/LINKING.md has a block that is neither commands nor, straight after them, what they print")
     ran = 0
     for _, commands, expected in blocks:
         if any(tool in commands for tool in missing):
@@ -75,7 +80,7 @@ def main():
         sys.exit("target/staticlib/libaria.a is missing: run `rt staticlib aria` at the repository's top first")
     missing = [tool for tool in ("pkg-config", "c++") if not shutil.which(tool)]
     before = set(files())
-    shutil.rmtree(PREFIX, ignore_errors=True)
+    shutil.rmtree(os.path.join(TOP, PREFIX), ignore_errors=True)
     ran, known = run_document(missing)
     languages = run_calls(missing)
     left = set(files()) - before

@@ -13,6 +13,7 @@ def _load():
 
 
 _LIB = _load()
+_LIB.OpenSSL_version.restype = ctypes.c_char_p
 _LIB.EVP_CIPHER_CTX_new.restype = ctypes.c_void_p
 _LIB.EVP_CIPHER_CTX_free.argtypes = [ctypes.c_void_p]
 _LIB.EVP_CIPHER_CTX_set_padding.argtypes = [ctypes.c_void_p, ctypes.c_int]
@@ -69,3 +70,7 @@ def back(key, blocks):
 def counter(key, first, data):
     """The data under counter mode, the 16-byte block `first` being the first counter."""
     return _run("ctr", key, first, 1, data) if data else b""
+
+
+def version():
+    return _LIB.OpenSSL_version(0).decode()

@@ -11,8 +11,16 @@ Written = namedtuple("Written", "stdout stderr status")
 
 SECONDS = 60
 
-# In place of a key's bytes: a key.bin that is there and cannot be read.
-UNREADABLE = "unreadable"
+
+def finished(process):
+    """What a process wrote, once it has ended."""
+    try:
+        stdout, stderr = process.communicate(timeout=SECONDS)
+    except subprocess.TimeoutExpired:
+        process.kill()
+        process.communicate()
+        return Written(b"", b"still running after %d seconds" % SECONDS, None)
+    return Written(stdout or b"", stderr, process.returncode)
 
 
 class Program:
@@ -34,16 +42,11 @@ class Program:
         self.close()
 
     def _place(self, key):
-        """Puts key.bin there: these bytes, none where `key` is None, or a folder of that name."""
+        """Puts key.bin there: these bytes, or none where `key` is None."""
         place = os.path.join(self.folder, "key.bin")
-        if os.path.isdir(place):
-            os.rmdir(place)
-        if key is None or key is UNREADABLE:
-            if os.path.exists(place):
-                os.remove(place)
-            if key is UNREADABLE:
-                os.mkdir(place)
-        else:
+        if os.path.exists(place):
+            os.remove(place)
+        if key is not None:
             with open(place, "wb") as file:
                 file.write(key)
 
@@ -57,21 +60,12 @@ class Program:
             stderr=subprocess.PIPE,
         )
 
-    def _finish(self, process):
-        try:
-            stdout, stderr = process.communicate(timeout=SECONDS)
-        except subprocess.TimeoutExpired:
-            process.kill()
-            process.communicate()
-            return Written(b"", b"still running after %d seconds" % SECONDS, None)
-        return Written(stdout, stderr, process.returncode)
-
     def from_file(self, key, archive, arguments=()):
         """With the archive as a file on standard input."""
         with tempfile.TemporaryFile(dir=self.folder) as file:
             file.write(archive)
             file.seek(0)
-            return self._finish(self._start(key, [self.path, *arguments], file))
+            return finished(self._start(key, [self.path, *arguments], file))
 
     def from_pipe(self, key, archive, piece, arguments=(), pause=0.001):
         """With the archive through a pipe, in pieces of so many bytes and a pause between them."""
@@ -83,9 +77,4 @@ class Program:
                 time.sleep(pause)
         except BrokenPipeError:
             pass  # a program may stop reading once the file is too long
-        return self._finish(process)
-
-    def from_nothing(self, key, arguments=()):
-        """With standard input closed."""
-        closed = ["sh", "-c", 'exec "$0" "$@" <&-', self.path, *arguments]
-        return self._finish(self._start(key, closed, None))
+        return finished(process)

@@ -4,7 +4,6 @@
 """
 
 import os
-import re
 import unittest
 
 import archive
@@ -111,20 +110,6 @@ class Stored(unittest.TestCase):
         folder = os.path.join(stored.TOP, "tests/jobs")
         found = {e.name for e in os.scandir(folder) if e.is_dir() and e.name != "__pycache__"}
         self.assertEqual({"tests/jobs/" + name for name in found}, kept)
-
-    def test_worked_example_of_the_format(self):
-        """The bytes worked through in docs/FORMAT.md are the sample's, in order."""
-        row = re.compile(r"^\| (\d+)(?: to (\d+))? \| `([0-9a-f ]+)` \|", re.M)
-        rows = row.findall(read("docs/FORMAT.md").decode())
-        file = read("examples/sample/archive.bin")
-        at = 0
-        for first, last, digits in rows:
-            data = bytes.fromhex(digits)
-            self.assertEqual(int(first), at)
-            self.assertEqual(int(last or first) - at + 1, len(data))
-            self.assertEqual(file[at : at + len(data)], data)
-            at += len(data)
-        self.assertEqual(at, len(file))
 
 
 if __name__ == "__main__":

@@ -2,7 +2,8 @@
  * Makes read or write fail, for tests of what a program then does. Preloaded before the C library.
  *
  * FAULT="CALL FD AFTER ERRNO TIMES": once AFTER bytes have gone through descriptor FD by CALL, which is
- * read or write, the next TIMES calls fail with ERRNO. A call that would pass AFTER is cut short there.
+ * read or write, the next TIMES calls fail with ERRNO, or go through where ERRNO is 0. A call that would
+ * pass AFTER is cut short there.
  */
 #define _GNU_SOURCE
 #include <dlfcn.h>
@@ -34,6 +35,8 @@ static ssize_t allowed(const char *call, int fd, size_t size)
     if (fault.left > 0)
         return (ssize_t)(size < fault.left ? size : fault.left);
     fault.times--;
+    if (fault.number == 0)
+        return (ssize_t)size;
     errno = fault.number;
     return -1;
 }

@@ -12,6 +12,7 @@ import contextlib
 import errno
 import os
 import pty
+import select
 import shutil
 import signal
 import subprocess
@@ -21,9 +22,10 @@ from collections import namedtuple
 
 HERE = os.path.dirname(os.path.abspath(__file__))
 SAMPLE = os.path.join(HERE, "..", "..", "examples", "sample")
-SECONDS = 60
+sys.path.insert(0, os.path.join(HERE, "..", "model"))
 
-Written = namedtuple("Written", "stdout stderr status")
+from program import SECONDS, Written, finished  # noqa: E402
+
 # What a program says, by its name, and what it writes of the sample when nothing goes wrong.
 Says = namedtuple("Says", "name words output could_not_read could_not_write usage")
 
@@ -61,10 +63,9 @@ class Folder:
 
     def __init__(self, program, faults):
         self.program = os.path.abspath(program)
-        self.faults = faults
         self.path = tempfile.mkdtemp(prefix="programs-")
-        for name in ("archive.bin", "key.bin"):
-            shutil.copy(os.path.join(SAMPLE, name), self.path)
+        for file in (os.path.join(SAMPLE, "archive.bin"), os.path.join(SAMPLE, "key.bin"), faults):
+            shutil.copy(file, self.path)
 
     def __enter__(self):
         return self
@@ -82,20 +83,15 @@ class Folder:
             command = ["sh", "-c", 'exec "$0" "$@" ' + shell, *command]
         environment = dict(os.environ, LC_ALL="C")
         if fault:
-            environment.update(LD_PRELOAD=self.faults, FAULT="%s %d %d %d %d" % fault)
+            # by a name without a folder's, which may have spaces
+            environment.update(LD_PRELOAD="./faults.so", FAULT="%s %d %d %d %d" % fault)
         with contextlib.ExitStack() as stack:
             if stdin is None:
                 stdin = stack.enter_context(open(self.file("archive.bin"), "rb"))
             process = subprocess.Popen(
                 command, cwd=self.path, env=environment, stdin=stdin, stdout=stdout, stderr=subprocess.PIPE
             )
-            try:
-                out, err = process.communicate(timeout=SECONDS)
-            except subprocess.TimeoutExpired:
-                process.kill()
-                out, err = process.communicate()
-                return Written(out or b"", err + b"still running after %d seconds" % SECONDS, None)
-        return Written(out or b"", err, process.returncode)
+            return finished(process)
 
 
 def whole(says):
@@ -117,6 +113,23 @@ def writing(says):
         yield "disk full after %d bytes" % after, Written(says.output[:after], says.could_not_write, 0), (
             lambda f, after=after: f.run(says.words, fault=("write", 1, after, errno.ENOSPC, 1))
         )
+
+    for after in (1, 4):
+        yield "a write cut short after %d bytes" % after, Written(says.output, b"", 0), (
+            lambda f, after=after: f.run(says.words, fault=("write", 1, after, 0, 1))
+        )
+
+    def at_terminal(f):
+        """Output to a terminal, which writes a newline as two bytes, calls for no hint."""
+        here, there = pty.openpty()
+        try:
+            written = f.run(says.words, stdout=there)
+            return written._replace(stdout=os.read(here, 4096))
+        finally:
+            os.close(here)
+            os.close(there)
+
+    yield "output to a terminal", Written(says.output.replace(b"\n", b"\r\n"), b"", 0), at_terminal
 
     def to_nobody(f):
         reader, writer = os.pipe()
@@ -145,6 +158,26 @@ def reading(says):
         yield "input error after %d bytes" % after, failed, (
             lambda f, after=after: f.run(says.words, fault=("read", 0, after, errno.EIO, 1))
         )
+    for number in (errno.EAGAIN, errno.ENOMEM, errno.ENXIO):
+        yield "input error %s" % errno.errorcode[number], failed, (
+            lambda f, number=number: f.run(says.words, fault=("read", 0, 20, number, 1))
+        )
+
+    def long_archive(f, length, after):
+        """Zero bytes: only how many there are is looked at, and whether a read of them failed."""
+        with open(f.file("archive.bin"), "wb") as file:
+            file.write(bytes(length))
+        return f.run(says.words, fault=("read", 0, after, errno.EIO, 1))
+
+    for after in (4095, 4096, 4097, 65535, 65536):
+        yield "long input, error after %d bytes" % after, failed, lambda f, after=after: long_archive(f, 65536, after)
+    yield "input too long, then an error", refused(says, 6), lambda f: long_archive(f, 65537, 65537)
+
+    def without_end(f):
+        with open("/dev/zero", "rb") as zeros:
+            return f.run(says.words, stdin=zeros)
+
+    yield "input without end", refused(says, 6), without_end
     yield "standard input gone after 20 bytes", failed, lambda f: f.run(says.words, fault=("read", 0, 20, errno.EBADF, 1))
     yield "standard input closed", refused(says, 5), lambda f: f.run(says.words, shell="<&-")
     yield "standard input open for writing only", refused(says, 5), lambda f: f.run(says.words, shell="0>other.bin")
@@ -182,7 +215,13 @@ def key_files(says):
         os.mkdir(f.file("key.bin"))
         return f.run(says.words)
 
+    def without_end(f):
+        os.remove(f.file("key.bin"))
+        os.symlink("/dev/zero", f.file("key.bin"))
+        return f.run(says.words)
+
     yield "no key.bin", refused(says, 1), without
+    yield "key.bin without end", refused(says, 1), without_end
     yield "key.bin that cannot be opened", refused(says, 1), circular
     yield "key.bin is a folder", refused(says, 1), folder
 
@@ -190,17 +229,38 @@ def key_files(says):
 def terminals(says):
     """At a terminal a hint comes first, and changes nothing else: an end of input there is an empty archive."""
 
-    def at_terminal(f):
+    def at_terminal(f, typed):
         here, there = pty.openpty()
         try:
-            os.write(here, b"\x04")
+            os.write(here, typed)
             return f.run(says.words, stdin=there)
         finally:
             os.close(here)
             os.close(there)
 
+    def archive_typed(f):
+        """An end-of-input key hands the line over first, and ends the input where the line is empty."""
+        with open(f.file("archive.bin"), "rb") as file:
+            return at_terminal(f, file.read() + b"\x04\x04")
+
+    def before_typing(f):
+        """The hint is there while the program still waits."""
+        here, there = pty.openpty()
+        with subprocess.Popen(
+            [f.program, *says.words], cwd=f.path, stdin=there, stdout=subprocess.PIPE, stderr=subprocess.PIPE
+        ) as process:
+            waiting = select.select([process.stderr], [], [], SECONDS)[0]
+            hint = process.stderr.read(len(says.usage)) if waiting else b"no hint, then "
+            os.write(here, b"\x04")
+            out, err = process.communicate(timeout=SECONDS)
+        os.close(here)
+        os.close(there)
+        return Written(out, hint + err, process.returncode)
+
     empty = refused(says, 5)
-    yield "at a terminal", empty._replace(stderr=says.usage + empty.stderr), at_terminal
+    yield "at a terminal", empty._replace(stderr=says.usage + empty.stderr), lambda f: at_terminal(f, b"\x04")
+    yield "at a terminal, before a word is typed", empty._replace(stderr=says.usage + empty.stderr), before_typing
+    yield "archive typed at a terminal", Written(says.output, says.usage, 0), archive_typed
 
 
 def words_of_jobs(says):

@@ -1,7 +1,7 @@
 """What ARIA makes on the way from a key and a block to the ciphertext, by the rules of RFC 5794.
 
 A model for tests, for the values that libcrypto does not give. It is written apart from the proved
-code and shares nothing with it: a block is one whole number of 128 bits, byte 0 highest, and the
+code, and from the cipher by which tests/docs tries docs/FORMAT.md, and shares nothing with them: a block is one whole number of 128 bits, byte 0 highest, and the
 boxes are computed from the field, not tabled.
 """
 

@@ -52,7 +52,8 @@ wordsBy f kl kr ck =
     let w3 : List ℕ = xorBlock (oddRound f (getD ck 2 []) w2) w1 in
     w0 ∷ w1 ∷ w2 ∷ w3 ∷ []
 
--- W0 to W3 of a key: KL is its first sixteen bytes, KR the rest, filled with zero bytes on the right
+-- W0 to W3 of a key: KL is its first sixteen bytes, KR the rest, filled with zero bytes on the right. A key of another length than 16, 24
+-- or 32 bytes has no words in the RFC; here it has those of its first 32 bytes, by the constants of that length
 unfoldable pub wordsOf : List ℕ → List (List ℕ)
 wordsOf key = wordsBy box (blockOf key) (blockOf (drop 16 key)) (constantsFor (length key))
 

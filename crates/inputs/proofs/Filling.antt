@@ -1,14 +1,16 @@
 -- Laws of filling the front of a buffer.
 -- Assumes nothing.
 use mathlib.Core.Path.{_≡_, refl, sym, ap, _∙_, subst}
+use mathlib.Core.Bool.{Bool, true, false}
 use mathlib.Core.List.{List, _++_, append-nil}
-use Prim.Native.Nat.{ℕ, _+_, _-_, _≤_}
+use Prim.Native.Nat.{ℕ, _+_, _-_, _≤_, _<_}
 use native.Mathlib.Omega.{arith}
 use lib.ListN.{length, take, drop, length-append, length-take, length-drop, drop-of-length-le}
 use lib.Seq.{drop-at, drop-drop, take-all, length-take-le}
+use Rattle.refusals.proofs.Booleans.{true-false}
 use Rattle.octets.specs.Parts.{overwritten}
 use Rattle.octets.proofs.Parts.{overwritten-front}
-use Rattle.inputs.specs.Filled.{Filled}
+use Rattle.inputs.specs.Filled.{Filled, FailsShort}
 
 -- a front of at most n bytes fits where n do
 pub front-fits : (n k : ℕ) (s : List ℕ) → n ≤ k → length (take n s) ≤ k
@@ -67,3 +69,15 @@ filled-more xs ys zs m n k r ek er f g =
     ∙ ap (λ (i : ℕ). drop i xs) (sym er)
     in
     subst (Filled xs r) (sym shape) record { within = fits; front = sym (length-take-le r _ fits); same = size; rest = past }
+
+-- m bytes, and then none, short of the end
+pub filled-short : (xs ys zs : List ℕ) (m n k : ℕ) (failed : Bool) → k ≡ length ys - m → n ≡ 0 → m < length ys → Filled xs m ys
+    → Filled (take k (drop m ys)) n zs
+    → Filled xs m (take m ys ++ (zs ++ drop k (drop m ys))) × FailsShort failed m (take m ys ++ (zs ++ drop k (drop m ys)))
+filled-short xs ys zs m n k failed ek en h f g =
+    let filled : Filled xs m (take m ys ++ (zs ++ drop k (drop m ys))) = filled-more xs ys zs m n k m ek (omega arith) f g in
+    (filled, λ e. omega (arith, f .same, filled .same))
+
+-- what did not fail has nothing to show
+pub no-failure : {A : Type 0} → false ≡ true → A
+no-failure e = absurd (true-false (sym e))

@@ -3,10 +3,10 @@ ghost use mathlib.Core.Path.{_≡_};
 ghost use Prim.Native.Nat.{_≤_, min};
 ghost use lib.ListN.{length};
 ghost use Rattle.io.specs.Counts.{Counts};
-ghost use Rattle.inputs.specs.Filled.{Filled};
+ghost use Rattle.inputs.specs.Filled.{Filled, FailsShort};
 use libc::STDIN_FILENO;
 
-// How many bytes were read, and whether a read failed. Both are the operating system's word, of which no contract can speak.
+// How many bytes were read, and whether a read failed. Within what the contracts say, both are the operating system's choice.
 pub struct Input {
     pub length: usize,
     pub failed: bool,
@@ -42,7 +42,8 @@ fn least(a: usize, b: usize) -> usize
     if a < b { a } else { b }
 }
 
-// One read; answers how many bytes it put at the front of the buffer, and whether it failed. No bytes mean the input's end, or an error.
+// One read; answers how many bytes it put at the front of the buffer, and whether it failed. No bytes in a buffer that has room mean the
+// input's end, or an error.
 fn read_once(fd: i32, buf: &mut [u8]) -> Input
     ensures { λ r. ⌜ Counts (r .length) (now (buf .exit)) ⌝ }
 {
@@ -72,9 +73,10 @@ fn read_piece(fd: i32, buf: &mut [u8]) -> Input
     read_through(fd, &mut chunk[..most], buf)
 }
 
-// Reads until the buffer is full, the input ends or a read fails.
+// Reads until the buffer is full, the input ends or a read fails. Where it failed, `errno` is that of the read.
 fn read_all(fd: i32, buf: &mut [u8]) -> Input
     ensures { λ r. ⌜ Filled (now (buf .entry)) (r .length) (now (buf .exit)) ⌝ }
+    ensures { λ r. ⌜ FailsShort (r .failed) (r .length) (now (buf .exit)) ⌝ }
 {
     let mut done: usize = 0;
     while done < buf.len() {
@@ -106,9 +108,11 @@ fn is_closed(input: Input) -> bool {
     false
 }
 
-// Reads standard input to its end, or as much of it as the buffer holds. One that is closed counts as empty.
+// Reads standard input to its end, or as much of it as the buffer holds, or until a read fails, which it tells. One that is closed, or not
+// open for reading, counts as empty.
 pub fn standard_input(buf: &mut [u8]) -> Input
     ensures { λ r. ⌜ Filled (now (buf .entry)) (r .length) (now (buf .exit)) ⌝ }
+    ensures { λ r. ⌜ FailsShort (r .failed) (r .length) (now (buf .exit)) ⌝ }
 {
     let input = read_all(STDIN_FILENO, buf);
     if is_closed(input) {
@@ -121,8 +125,8 @@ pub fn standard_input(buf: &mut [u8]) -> Input
 }
 
 // Reads a file to its end, or as much of it as the buffer holds, and answers how many bytes that is. A file that is missing counts as
-// empty; one that cannot be read counts as one that fills the buffer. So a caller lends one byte more than the longest file that it takes,
-// and never takes a file for one that was read to its end when it was not.
+// empty; one that cannot be read counts as one that fills the buffer, whatever was read of it. So a caller lends one byte more than the
+// longest file that it takes, and never takes a file for one that was read to its end when it was not.
 pub fn named_file(name: &[u8], buf: &mut [u8]) -> usize
     ensures { λ r. ⌜ Filled (now (buf .entry)) r (now (buf .exit)) ⌝ }
 {

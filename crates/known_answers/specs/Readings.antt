@@ -1,4 +1,5 @@
--- The readings of 01, Plate readings, that are marked P, which means to be proved: tests of the very definitions that the contracts cite, in one list.
+-- The readings of 01, Plate readings, that are marked P, which means to be proved: tests of the very definitions that the contracts cite,
+-- in one list.
 -- Blocks are compared whole. `every readings` is the one theorem of proofs/Readings.
 -- Assumes nothing.
 use mathlib.Core.Bool.{Bool, true, false, cond, _&&_, _||_}

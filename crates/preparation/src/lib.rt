@@ -14,7 +14,7 @@ fn words_by(t: &[[u8; 256]; 4], kl: [u8; 16], kr: [u8; 16], ck: [[u8; 16]; 3]) -
     [kl, w1, w2, w3]
 }
 
-// W0 to W3 of a key, of any length.
+// W0 to W3 of a key. Of a key of another length than 16, 24 or 32 bytes 01 has none; these are the definition's then.
 pub fn words(key: &[u8]) -> [[u8; 16]; 4]
     ensures { λ r. ⌜ r ≡ wordsOf (now (key .entry)) ⌝ }
 {

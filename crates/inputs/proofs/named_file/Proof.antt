@@ -30,7 +30,7 @@ same-length c = search needs
 returns-3 : tie.Need-returns-3
 returns-3 c =
     let read = c .before .before .before .before in
-    filled-full _ _ (read .read-all .ensures .same)
+    filled-full _ _ (read .read-all .ensures .0 .same)
 
 same-length-2 : tie.Need-same-length-2
 same-length-2 c = search needs

@@ -1,11 +1,11 @@
 -- `inputs::read_all` meets its contract: after each turn the front of the buffer is filled.
 -- Assumes nothing.
-use mathlib.Core.Path.{refl, sym}
+use mathlib.Core.Path.{refl}
 use Prim.Native.Nat.{_-_}
 use native.Mathlib.Omega.{arith}
 use lib.ListN.{length}
 use Rattle.inputs.specs.Filled.{Filled}
-use Rattle.inputs.proofs.Filling.{filled-none, filled-more}
+use Rattle.inputs.proofs.Filling.{filled-none, filled-more, filled-short, no-failure}
 use borrow.Author.Needs.{needs}
 use Rattle.inputs.proofs.read_all.Statement.{statement}
 use Rattle.inputs.proofs.read_all.Tie as tie
@@ -38,7 +38,8 @@ returns : tie.Need-returns Inv-loop μ-loop
 returns c =
     let part = c .before .before .before in
     let l = part .before .before .before .loop in
-    filled-more _ (l .buf) _ (l .done) _ _ _ refl (omega arith) (l .inv) (part .read-piece .ensures)
+    let test = part .before .before .loop-test .taken in
+    filled-short _ (l .buf) _ (l .done) _ _ _ refl (c .if1 .taken) test (l .inv) (part .read-piece .ensures)
 
 add-done : tie.Need-add-done Inv-loop μ-loop
 add-done c = search needs
@@ -56,7 +57,7 @@ same-length-2 : tie.Need-same-length-2 Inv-loop μ-loop
 same-length-2 c = search needs
 
 returns-2 : tie.Need-returns-2 Inv-loop μ-loop
-returns-2 c = search needs
+returns-2 c = (c .before .loop .inv, no-failure)
 
 pub read-all-spec : {M : Type 1} → statement M
 read-all-spec =

@@ -1,7 +1,6 @@
 -- `preparation::prepare` meets its contract: the schedule is that of the key's words.
 -- Assumes nothing.
 use mathlib.Core.Path.{ap, _∙_}
-use lib.ListN.{length}
 use borrow.Author.Needs.{needs}
 use Rattle.expansion.specs.KeySchedule.{scheduleFor, scheduleOf}
 use Rattle.preparation.proofs.prepare.Statement.{statement}
