@@ -1,8 +1,9 @@
 """What ARIA makes on the way from a key and a block to the ciphertext, by the rules of RFC 5794.
 
 A model for tests, for the values that libcrypto does not give. It is written apart from the proved
-code, and from the cipher by which tests/docs tries docs/FORMAT.md, and shares nothing with them: a block is one whole number of 128 bits, byte 0 highest, and the
-boxes are computed from the field, not tabled.
+code, and from the cipher by which tests/docs tries docs/FORMAT.md, and shares nothing with them: a
+block is one whole number of 128 bits, byte 0 highest, and the boxes are computed from the field, not
+tabled.
 """
 
 C1 = 0x517CC1B727220A94FE13ABE8FA9A6EE0
