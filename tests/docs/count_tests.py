@@ -9,6 +9,7 @@ Nothing is run but the model's making of archives.
 
 import argparse
 import glob
+import importlib.util
 import os
 import re
 import sys
@@ -37,6 +38,14 @@ def count(line, pattern):
     return sum(len(re.findall(line, read(path), re.M)) for path in found(pattern))
 
 
+def programs():
+    """tests/programs/run.py, under a name of its own: the model has a run.py too."""
+    spec = importlib.util.spec_from_file_location("programs", os.path.join(TOP, "tests", "programs", "run.py"))
+    module = importlib.util.module_from_spec(spec)
+    spec.loader.exec_module(module)
+    return module
+
+
 def figures():
     edits = found("crates/*/must-fail/*.edit")
     of_definitions = [path for path in edits if re.search(r"^file: specs/", read(path), re.M)]
@@ -55,6 +64,8 @@ def figures():
     yield "archives of the model with one byte changed", len(changed)
     yield "random archives of the model", len(chosen)
     yield "distinct ones among all these", len({case.file for case in made + changed + chosen})
+    faults = programs()
+    yield "cases of `tests/programs`", sum(len(list(faults.cases(says))) for says in (faults.JOBS, faults.OPEN))
     yield "self-tests of the model", count(r"^    def test_", "tests/model/selftest.py")
     for path in found("host/tests/*.rs"):
         name = os.path.relpath(path, TOP)

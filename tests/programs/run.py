@@ -277,12 +277,17 @@ def words_of_open(says):
     yield "a job of no bytes", Written(b"", b"", 0), lambda f: f.run(["24000018"])
 
 
+def cases(says):
+    """Each case of a program: its name, what is to be written, and how it is run in a folder."""
+    for group in (whole, writing, reading, key_files, terminals, words_of_jobs if says is JOBS else words_of_open):
+        yield from group(says)
+
+
 def main():
     parser = argparse.ArgumentParser(description=__doc__.splitlines()[0])
     parser.add_argument("--jobs", required=True)
     parser.add_argument("--open", required=True)
     options = parser.parse_args()
-    both = (whole, writing, reading, key_files, terminals)
     agreed = differed = 0
     with tempfile.TemporaryDirectory(prefix="programs-") as built:
         faults = os.path.join(built, "faults.so")
@@ -290,8 +295,8 @@ def main():
             ["cc", "-std=c99", "-Wall", "-Wextra", "-Werror", "-shared", "-fPIC", os.path.join(HERE, "faults.c"), "-o", faults, "-ldl"],
             check=True,
         )
-        for says, program, groups in ((JOBS, options.jobs, (*both, words_of_jobs)), (OPEN, options.open, (*both, words_of_open))):
-            for name, expected, run in (case for group in groups for case in group(says)):
+        for says, program in ((JOBS, options.jobs), (OPEN, options.open)):
+            for name, expected, run in cases(says):
                 with Folder(program, faults) as folder:
                     written = run(folder)
                 agreed += written == expected
