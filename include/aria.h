@@ -8,7 +8,7 @@
  * A block is 16 bytes. Each block of the run is encrypted or decrypted on its own, in place and in
  * order (ECB). A mode of operation is the caller's affair.
  *
- * Both calls give the same bytes and the same answers; they differ in speed alone. Each call prepares
+ * Both calls give the same bytes and the same answers; they differ in speed and stack. Each call prepares
  * its key anew, which takes as long as several blocks do, so hand over long runs. aria_run_tables also
  * makes larger tables first, and then takes less time for a block: it is faster from about four blocks
  * on (where the two cross varies between one block and ten), and on long runs takes two thirds of the
