@@ -4,10 +4,10 @@
 
 The example's bytes are those of examples/sample, its values of E libcrypto's, its listing what the
 program `jobs` is stored to print. The cipher below is written from the section "ARIA in short" alone,
-apart from the model of tests/vectors, and reads its tables, constants and rotations off the page; it
-must give the published vectors and libcrypto's bytes. Every definition that the page names stands in
-the file that it gives, needs no name that the page does not explain or find in a file above it, and
-gives the vectors too, computed by definitions.py.
+apart from the model of tests/vectors, reads its tables, constants and rotations off the page and
+follows sentences that must stand there; it must give the published vectors and libcrypto's bytes.
+Every definition that the page names stands in the file that it gives, needs no name that the page does
+not explain or find in a file above it, and gives the vectors too, computed by definitions.py.
 """
 
 import os
@@ -35,6 +35,28 @@ WORDS = {"a", "be", "add", "added"}
 # Words of a paper that the reader does not have.
 FOREIGN = [r"\b[Pp]lates?\b", r"\b[Cc]ontents\b", r"\b[Dd]ocument \d+", r"\b0[12]\b", r"\b[Dd]emand \d"]
 ROOTS = ["scheduleOf", "encrypted", "counterBlock", "keystream", "addStream"]
+# Sentences of rules that the cipher below, or the model, follows without reading them off the page: they must stand there as they are.
+FOLLOWED = [
+    "The key is 16, 24 or 32 bytes long",
+    "ARIA works in 12, 14 or 16 rounds for the three lengths.",
+    "A file is 20 to 65,536 bytes long.",
+    "The entry of job i, counted from 0, begins at position 20 + 16 × i.",
+    "The first begins where the directory ends, at 20 + 16 × count;",
+    "Plain byte j is therefore body byte j ⊕ byte j mod 16 of E(counter block j div 16).",
+    "make the whole check, 1 to 17, first",
+    "The bits of a byte are numbered 0 to 7, and bit 0 is worth 1.",
+    "The inverse of x is the byte whose product with x is `01`; the inverse of `00` is `00`.",
+    "S3(S1(x)) = x and S4(S2(x)) = x for every byte x.",
+    "Layer one takes byte j of a block through S1, S2, S3, S4 where j mod 4 is 0, 1, 2, 3.",
+    "FO(block, k) = A(layer one(block ⊕ k)). FE(block, k) = A(layer two(block ⊕ k)).",
+    "KL is the first 16 bytes of the key. KR is the rest of it, filled up to 16 bytes by bytes `00` at the end.",
+    "W0 = KL. W1 = FO(W0, K1) ⊕ KR. W2 = FE(W1, K2) ⊕ W0. W3 = FO(W2, K3) ⊕ W1.",
+    "There are n + 1 of them, key 1 to key (n + 1). They come in fours: W0 ⊕ r(W1), W1 ⊕ r(W2), W2 ⊕ r(W3), W3 ⊕ r(W0),",
+    "where r rotates a block as a number of 128 bits, byte 0 the most significant",
+    "Key 17 is W0 ⊕ r(W1).",
+    "rounds 1 to n - 1: FO with key i in an odd round i, FE with key i in an even one.",
+    "E = layer two(block ⊕ key n) ⊕ key (n + 1).",
+]
 
 
 def read(path, mode="r"):
@@ -340,6 +362,9 @@ class Aria:
 
 
 def faults_of_aria(page):
+    for sentence in FOLLOWED:
+        if sentence not in page.text:
+            yield "it does not say: %s" % sentence
     aria = Aria(page)
     for name, *cells in page.table("box", "of `00`", "of `01`", "of `53`", "of `ff`"):
         if [octets(cell)[0] for cell in cells] != [aria.boxes[name][x] for x in (0x00, 0x01, 0x53, 0xFF)]:
