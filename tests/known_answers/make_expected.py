@@ -14,7 +14,11 @@ Then a line a call on the sample archive, examples/sample:
     open NUMBER in N bytes: ANSWER, buffer HEX
 
 ANSWER is `bytes M` or `refused R`; the buffer of N bytes is shown whole, and had FILL everywhere
-before. Then a line an engine, `ENGINE, RFC 5794 A.1: HEX`: the appendix's block, encrypted.
+before. Then a line a search of bare contents, which no program reaches otherwise,
+
+    search NUMBER in CONTENTS: index I
+
+or `refused 19`; of an entry only the number is looked at, and dots stand for the rest. Then a line an engine, `ENGINE, RFC 5794 A.1: HEX`: the appendix's block, encrypted.
 """
 
 import os
@@ -29,6 +33,22 @@ import stored  # noqa: E402
 KEY = bytes(range(16))
 FILL = b"."
 BLOCK = bytes(0x11 * i for i in range(16))
+
+
+# What stands before the number asked for, in entries that a dot fills up; a short last one is no entry.
+SEARCHES = [
+    # the numbers of the contents, what is cut off the end, the number asked for
+    ((b"24000017", b"24000020", b"24000018"), 0, b"24000017"),
+    ((b"24000017", b"24000020", b"24000018"), 0, b"24000018"),
+    ((b"24000018", b"24000017", b"24000020"), 0, b"24000020"),
+    ((b"24000018", b"24000017", b"24000018"), 0, b"24000018"),
+    ((b"24000020", b"24000017"), 0, b"24000017"),
+    ((b"24000017", b"24000018"), 1, b"24000018"),
+    ((b"2400001/", b"24000010"), 0, b"24000010"),
+    ((b"24000017",), 0, b"2400001"),
+    ((b"24000017",), 0, b"240000170"),
+    ((), 0, b"24000017"),
+]
 
 
 def header(layout, count, length):
@@ -90,10 +110,23 @@ def calls(file):
         yield "open 24000017 in %d bytes" % room, opened(file, b"24000017", room)
 
 
+def searches():
+    for numbers, cut, number in SEARCHES:
+        contents = b"".join(digits.ljust(archive.ENTRY, FILL) for digits in numbers)
+        contents = contents[: len(contents) - cut]
+        try:
+            given = "index %d" % archive.search(contents, number)
+        except archive.Refused as refused:
+            given = "refused %d" % refused.number
+        yield "search %s in %s" % (number.decode(), contents.decode()), given
+
+
 if __name__ == "__main__":
     for case, file in cases():
         print("%s: %s" % (case, answer(file)))
     for call, given in calls(sample()):
+        print("%s: %s" % (call, given))
+    for call, given in searches():
         print("%s: %s" % (call, given))
     for engine in ("plain", "tables"):
         print("%s, RFC 5794 A.1: %s" % (engine, libcrypto.forward(KEY, BLOCK).hex()))

@@ -1,4 +1,4 @@
-"""The rules of the dryer archive, layout 1, read straight from document 01.
+"""The rules of the dryer archive, layout 1, read straight from document 01, with document 02's request b.
 
 A model for tests: plain Python over whole numbers and bytes, written apart from the proved code and
 sharing nothing with it. Refusals carry document 01's numbers.
@@ -70,8 +70,24 @@ def check(key, file):
     return count
 
 
+def value(number):
+    """Eight bytes as a decimal number; a byte below the digit 0, or one that is missing, counts as 0."""
+    return sum(max(byte - 0x30, 0) * 10 ** (7 - place) for place, byte in enumerate(number[:8]))
+
+
+def search(contents, number):
+    """The index of the entry that bears the number, in any bytes. The search ends at the first entry above it: 19."""
+    for index in range(len(contents) // ENTRY):
+        digits = contents[ENTRY * index :][:8]
+        if digits == number:
+            return index
+        refuse_if(value(digits) > value(number), 19)
+    raise Refused(19)
+
+
 def find(key, file, number):
-    """The index of the job's entry. Refusals of `check`, then 18 and 19."""
+    """The index of the job's entry. Refusals of `check`, then 18 and 19. Every entry is asked, as document 01 has
+    it: an early end must not show."""
     count = check(key, file)
     refuse_if(len(number) != 8 or not all_digits(number), 18)
     for index in range(count):

@@ -13,24 +13,26 @@ use Rattle.refusals.specs.Cases.{when, firstOf, positive}
 use Rattle.refusals.specs.Answers.{Answer, refused, gives, answer}
 use Rattle.refusals.proofs.Booleans.{both-true}
 use Rattle.refusals.proofs.Cases.{clear, first-stop, first-pass, first-none, first-lacks}
-use Rattle.refusals.proofs.Answers.{answer-gives, answer-number, refusal-is, part-refused, part-gives}
+use Rattle.refusals.proofs.Answers.{answer-gives, answer-number, answer-first, part-refused, part-gives}
 use Rattle.octets.specs.Parts.{liesAt}
 use Rattle.header.specs.Fields.{directoryOf}
 use Rattle.directory.specs.Entries.{entries}
 use Rattle.jobnumber.specs.Number.{digits, isJobNumber}
-use Rattle.directory.specs.Search.{indexOf, searchCases}
-use Rattle.directory.proofs.Searching.{some-inside, some-bears, none-bears}
+use Rattle.directory.specs.Search.{indexOf, missingCases, searchCases}
+use Rattle.directory.proofs.Accepted.{sound-directories}
+use Rattle.directory.proofs.Searching.{some-inside, some-bears}
+use Rattle.directory.proofs.EarlyEnd.{none-bears}
 use Rattle.archive.specs.Check.{checkCases}
 use Rattle.archive.specs.Find.{numberCases, findCases, findOf, Finds, bodyStart, GivesBody}
 use Rattle.archive.specs.Internal.{BodyPart, lookupOf}
 use Rattle.archive.proofs.Checking.{check-positive, check-lacks}
-use Rattle.archive.proofs.Accepted.{accepted-entries, accepted-within}
+use Rattle.archive.proofs.Accepted.{accepted-directory, accepted-entries, accepted-within}
 
 -- ---- looking a number up
 
 module _ (file number : List ℕ) where
   pub number-positive : positive (numberCases file number) ≡ true
-  unfolding numberCases searchCases positive
+  unfolding numberCases missingCases positive
   number-positive = refl
 
   -- no case of the number: those of the search are none
@@ -62,7 +64,7 @@ module _ (key file number : List ℕ) where
   -- a refused check is what finding answers
   pub find-refused : (n : ℕ) → n ≡ firstOf (checkCases key file) → (n ≡ 0 → ⊥) → refused n ≡ findOf key file number
   unfolding findCases
-  find-refused n e h = refusal-is n _ _ (e ∙ sym (first-stop (checkCases key file) (numberCases file number) (λ q. h (e ∙ q)))) h
+  find-refused n e h = ap refused e ∙ sym (answer-first (checkCases key file) (numberCases file number) _ (λ q. h (e ∙ q)))
 
   -- an accepted archive leaves the cases of the number
   pub find-asked : firstOf (checkCases key file) ≡ 0 → lookupOf file number ≡ findOf key file number
@@ -111,7 +113,8 @@ module _ (key file number : List ℕ) where
     nowhere = λ g i l.
         let q = missing-stages (answer-number _ _ 19 (sym e ∙ g) .0) in
         let n = accepted-entries key file (q .0) in
-        none-bears (directoryOf file) number (number-missing file number (q .1)) i (omega arith);
+        let ascending = sound-directories _ _ _ (accepted-directory key file (q .0)) .ascending in
+        none-bears (directoryOf file) number ascending (number-missing file number (q .1)) i (omega arith);
   }
 
 -- ---- the ways out of `body`

@@ -3,4 +3,5 @@ pub mod Accepted
 pub mod Finding
 pub mod Plaintext
 pub mod Opening
+pub mod EarlyEnd
 pub mod Theorems

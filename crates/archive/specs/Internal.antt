@@ -33,5 +33,6 @@ pub record BodyPart (file : RefT (List ℕ)) (i : ℕ) (r : RefT (List ℕ)) : T
 
 -- opening a job of an accepted file under a schedule: the cases of the number and of the buffer are left
 pub record OpensJob (s : Schedule) (file number before : List ℕ) (a : Answer) (after : List ℕ) : Type 0 where
-  pub answered : a ≡ answer (firstOf (numberCases file number ++ roomCases file number (length before))) (length (bodyOf file number))
+  pub answered : a
+      ≡ answer (firstOf (numberCases file number ++ roomCases (length (bodyOf file number)) (length before))) (length (bodyOf file number))
   pub bytes : after ≡ writtenFor a (plainOf s file number) before

@@ -3,3 +3,4 @@ pub mod Find
 pub mod Open
 pub mod Internal
 pub mod Theorems
+pub mod EarlyEnd

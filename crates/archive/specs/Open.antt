@@ -33,13 +33,13 @@ bodyOf file number = bodyAt file (indexOf (directoryOf file) number)
 abbrev pub plainOf : Schedule → List ℕ → List ℕ → List ℕ
 plainOf s file number = underKeystream s (archiveNumber file) number (bodyOf file number)
 
--- the case of a buffer of so many bytes
-unfoldable pub roomCases : List ℕ → List ℕ → ℕ → List Case
-roomCases file number room = when (ltb room (length (bodyOf file number))) 20 ∷ []
+-- the case of a buffer of so many bytes for a body of so many
+unfoldable pub roomCases : ℕ → ℕ → List Case
+roomCases size room = when (ltb room size) 20 ∷ []
 
 -- the cases of opening
 unfoldable pub openCases : List ℕ → List ℕ → List ℕ → ℕ → List Case
-openCases key file number room = findCases key file number ++ roomCases file number room
+openCases key file number room = findCases key file number ++ roomCases (length (bodyOf file number)) room
 
 -- what opening answers: how many plain bytes there are
 abbrev pub openOf : List ℕ → List ℕ → List ℕ → ℕ → Answer

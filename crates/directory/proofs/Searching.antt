@@ -1,66 +1,189 @@
--- What the answer of a search tells: an index, that this entry bears the number; 19, that no entry does.
+-- Laws of the search: the index that it comes to, by where it ends, and what its answer tells.
 -- Assumes nothing.
 use mathlib.Core.Path.{_≡_, refl, sym, ap, _∙_}
-use mathlib.Core.Bool.{Bool, true, false, cond}
+use mathlib.Core.Bool.{Bool, true, false, cond, _||_}
 use mathlib.Core.List.{List}
-use Prim.Native.Nat.{ℕ, _<_}
+use Prim.Native.Nat.{ℕ, _<_, _≤_}
 use native.Mathlib.Omega.{arith}
-use borrow.Author.Tests.{eqb-true, eq-eqb, ne-eqb}
+use borrow.Author.Tests.{eqb-true, eq-eqb, ne-eqb, ltb-true, ltb-false, le-ltb}
 use lib.Arith.{lt-of-le-ne}
-use lib.Dec.{eqb}
+use lib.Dec.{eqb, ltb}
 use Rattle.refusals.specs.Cases.{firstOf}
-use Rattle.refusals.specs.Answers.{Answer, refused, gives}
+use Rattle.refusals.specs.Answers.{Answer, refused, gives, answer}
+use Rattle.refusals.proofs.Booleans.{true-false, not-yes, neither}
 use Rattle.refusals.proofs.Cases.{one-applies, one-passes}
 use Rattle.refusals.proofs.Answers.{answer-gives, answer-number, answer-none, refusal-is}
 use Rattle.octets.proofs.Equality.{same-eq, eq-same}
-use Rattle.octets.proofs.Below.{index-at, index-none, index-le, index-hit, index-misses}
+use Rattle.octets.proofs.Below.{index-at, index-le, index-hit, index-before}
+use Rattle.jobnumber.specs.Number.{orderOf}
+use Rattle.jobnumber.proofs.Order.{order-front}
 use Rattle.directory.specs.Entries.{entries, entryAt, numberOf}
-use Rattle.directory.specs.Search.{bears, indexOf, searchCases, searchOf, Searched}
+use Rattle.directory.specs.Search.{bears, passes, endsAt, stopOf, indexOf, missingCases, searchCases, searchOf, Searched}
 
-module _ (d number : List ℕ) where
-  -- the case applies exactly where the index is the number of entries
-  case-none : indexOf d number ≡ entries d → firstOf (searchCases d number) ≡ 19
-  unfolding searchCases
-  case-none e = one-applies _ 19 (eq-eqb _ _ e)
+-- ---- case 19, where a search has come to index i: it applies exactly where i is the number of entries
 
-  case-some : (indexOf d number ≡ entries d → ⊥) → firstOf (searchCases d number) ≡ 0
-  unfolding searchCases
-  case-some h = one-passes _ 19 (ne-eqb _ _ h)
+module _ (d : List ℕ) (i : ℕ) where
+  missing : i ≡ entries d → firstOf (missingCases d i) ≡ 19
+  unfolding missingCases
+  missing e = one-applies _ 19 (eq-eqb _ _ e)
 
-  none-case : firstOf (searchCases d number) ≡ 19 → indexOf d number ≡ entries d
-  unfolding searchCases firstOf
-  none-case e = go (eqb (indexOf d number) (entries d)) refl e
+  present : (i ≡ entries d → ⊥) → firstOf (missingCases d i) ≡ 0
+  unfolding missingCases
+  present h = one-passes _ 19 (ne-eqb _ _ h)
+
+  missing-is : firstOf (missingCases d i) ≡ 19 → i ≡ entries d
+  unfolding missingCases firstOf
+  missing-is e = go (eqb i (entries d)) refl e
     where
-      go : (b : Bool) → eqb (indexOf d number) (entries d) ≡ b → _≡_ {A = ℕ} (cond b 19 0) 19 → indexOf d number ≡ entries d
+      go : (b : Bool) → eqb i (entries d) ≡ b → _≡_ {A = ℕ} (cond b 19 0) 19 → i ≡ entries d
       go true t e = eqb-true _ _ t
       go false t e = absurd (omega arith)
 
-  -- no case: the index is inside
-  pub some-inside : firstOf (searchCases d number) ≡ 0 → indexOf d number < entries d
+  present-not : firstOf (missingCases d i) ≡ 0 → i ≡ entries d → ⊥
+  present-not e q = let z = missing q in omega arith
+
+  -- what a search answers that has come to i
+  comes-to : i < entries d → gives i ≡ answer (firstOf (missingCases d i)) i
+  comes-to l = sym (answer-none _ i (present (λ q. omega arith)))
+
+  comes-to-none : i ≡ entries d → refused 19 ≡ answer (firstOf (missingCases d i)) i
+  comes-to-none e = refusal-is 19 _ i (sym (missing e)) (λ q. omega arith)
+
+module _ (d number : List ℕ) where
+  -- ---- an entry by itself
+
+  pub bearer : (i : ℕ) → bears d number i ≡ true → numberOf (entryAt d i) ≡ number
+  unfolding bears
+  bearer i e = same-eq _ _ e
+
+  pub bearing : (i : ℕ) → numberOf (entryAt d i) ≡ number → bears d number i ≡ true
+  unfolding bears
+  bearing i e = eq-same _ _ e
+
+  -- an entry that bears the number has its place in the order, so it is not above it
+  pub same-place : (i : ℕ) → bears d number i ≡ true → orderOf (entryAt d i) ≡ orderOf number
+  same-place i e = sym (order-front (entryAt d i)) ∙ ap orderOf (bearer i e)
+
+  pub not-above : (i : ℕ) → orderOf (entryAt d i) ≤ orderOf number → passes d number i ≡ false
+  unfolding passes
+  not-above i l = le-ltb _ _ l
+
+  pub ends-bearing : (i : ℕ) → bears d number i ≡ true → endsAt d number i ≡ true
+  unfolding endsAt
+  ends-bearing i e = rw e
+
+  pub ends-above : (i : ℕ) → passes d number i ≡ true → endsAt d number i ≡ true
+  unfolding endsAt
+  ends-above i p = go (bears d number i) p
+    where
+      go : (b : Bool) → passes d number i ≡ true → (b || passes d number i) ≡ true
+      go true p = refl
+      go false p = p
+
+  pub goes-on : (i : ℕ) → bears d number i ≡ false → passes d number i ≡ false → endsAt d number i ≡ false
+  unfolding endsAt
+  goes-on i b p = rw b p
+
+  pub gone-on : (i : ℕ) → endsAt d number i ≡ false → (bears d number i ≡ false) × (passes d number i ≡ false)
+  unfolding endsAt
+  gone-on i e = neither (bears d number i) (passes d number i) e
+
+  pub ends-so : (i : ℕ) → bears d number i ≡ false → endsAt d number i ≡ true → passes d number i ≡ true
+  unfolding endsAt
+  ends-so i b e = rw b at e
+
+  -- ---- the index that the search comes to
+
+  index-stop : bears d number (stopOf d number) ≡ true → indexOf d number ≡ stopOf d number
   unfolding indexOf
-  some-inside e =
-      let ne : indexOf d number ≡ entries d → ⊥ = λ q. let z = case-none q in omega arith in
-      lt-of-le-ne (index-le (bears d number) (entries d)) ne
+  index-stop e = rw e
 
-  pub some-bears : firstOf (searchCases d number) ≡ 0 → numberOf (entryAt d (indexOf d number)) ≡ number
-  unfolding indexOf bears
-  some-bears e = same-eq _ _ (index-hit (bears d number) (entries d) (some-inside e))
-
-  pub none-bears : firstOf (searchCases d number) ≡ 19 → (i : ℕ) → i < entries d → numberOf (entryAt d i) ≡ number → ⊥
-  unfolding indexOf bears
-  none-bears e i l s = index-misses (bears d number) (entries d) i l (eq-same _ _ s) (none-case e)
-
-  pub search-at : (i : ℕ) → i < entries d → ((k : ℕ) → k < i → bears d number k ≡ false) → bears d number i ≡ true
-      → gives i ≡ searchOf d number
+  index-missing : bears d number (stopOf d number) ≡ false → indexOf d number ≡ entries d
   unfolding indexOf
-  search-at i l h e =
-      let at : indexOf d number ≡ i = index-at (bears d number) (entries d) i l h e in
-      let some = case-some (λ q. omega arith) in
-      sym (answer-none _ (indexOf d number) some ∙ ap gives at)
+  index-missing e = rw e
 
-  pub search-none : ((k : ℕ) → k < entries d → bears d number k ≡ false) → refused 19 ≡ searchOf d number
-  unfolding indexOf
-  search-none h = refusal-is 19 _ (indexOf d number) (sym (case-none (index-none (bears d number) (entries d) h))) (λ q. omega arith)
+  -- it ends at entry i
+  module _ (i : ℕ) (l : i < entries d) (h : (k : ℕ) → k < i → endsAt d number k ≡ false) where
+    stops : endsAt d number i ≡ true → stopOf d number ≡ i
+    unfolding stopOf
+    stops e = index-at (endsAt d number) (entries d) i l h e
+
+    pub index-found : bears d number i ≡ true → indexOf d number ≡ i
+    index-found e = let at = stops (ends-bearing i e) in index-stop (rw at e) ∙ at
+
+    pub index-past : passes d number i ≡ true → indexOf d number ≡ entries d
+    unfolding passes
+    index-past p =
+        let above : orderOf number < orderOf (entryAt d i) = ltb-true _ _ p in
+        let no : bears d number i ≡ false = not-yes _ (λ e. omega (arith, same-place i e)) in
+        index-missing (rw (stops (ends-above i p)) no)
+
+    pub search-at : bears d number i ≡ true → gives i ≡ searchOf d number
+    search-at e = rw (index-found e) (comes-to d i l)
+
+    pub search-past : passes d number i ≡ true → refused 19 ≡ searchOf d number
+    search-past p = comes-to-none d _ (index-past p)
+
+  -- no entry bears the number
+  pub index-nowhere : ((k : ℕ) → k < entries d → bears d number k ≡ false) → indexOf d number ≡ entries d
+  unfolding stopOf
+  index-nowhere h = go (bears d number (stopOf d number)) refl
+    where
+      go : (b : Bool) → bears d number (stopOf d number) ≡ b → indexOf d number ≡ entries d
+      go false e = index-missing e
+      go true e =
+          let most : stopOf d number ≤ entries d = index-le (endsAt d number) (entries d) in
+          let past : entries d ≤ stopOf d number =
+          ltb-false _ _ (not-yes (ltb (stopOf d number) (entries d)) (λ l. true-false (sym e ∙ h _ (ltb-true _ _ l)))) in
+          index-stop e ∙ omega arith
+
+  pub search-nowhere : ((k : ℕ) → k < entries d → bears d number k ≡ false) → refused 19 ≡ searchOf d number
+  search-nowhere h = comes-to-none d _ (index-nowhere h)
+
+  -- ---- what the answer tells
+
+  module _ (e : firstOf (searchCases d number) ≡ 0) where
+    some-stop : (bears d number (stopOf d number) ≡ true) × (indexOf d number ≡ stopOf d number)
+    some-stop = go (bears d number (stopOf d number)) refl
+      where
+        go : (b : Bool) → bears d number (stopOf d number) ≡ b
+            → (bears d number (stopOf d number) ≡ true) × (indexOf d number ≡ stopOf d number)
+        go true q = (q, index-stop q)
+        go false q = absurd (present-not d _ e (index-missing q))
+
+    pub some-inside : indexOf d number < entries d
+    unfolding stopOf
+    some-inside =
+        let most : stopOf d number ≤ entries d = index-le (endsAt d number) (entries d) in
+        lt-of-le-ne (omega (arith, some-stop .1)) (present-not d _ e)
+
+    pub some-bears : numberOf (entryAt d (indexOf d number)) ≡ number
+    some-bears = bearer _ (rw (some-stop .1) (some-stop .0))
+
+    some-before : (k : ℕ) → k < indexOf d number → endsAt d number k ≡ false
+    unfolding stopOf
+    some-before k l = index-before (endsAt d number) (entries d) k (rw (some-stop .1) at l)
+
+    some-first : (k : ℕ) → k < indexOf d number → (numberOf (entryAt d k) ≡ number → ⊥) × (orderOf (entryAt d k) ≤ orderOf number)
+    unfolding passes
+    some-first k l =
+        let no = gone-on k (some-before k l) in
+        (λ q. true-false (sym (bearing k q) ∙ no .0), ltb-false _ _ (no .1))
+
+  -- 19: the search has ended before an entry that bears the number, at one that is above it
+  pub none-behind : firstOf (searchCases d number) ≡ 19 → (i : ℕ) → i < entries d → numberOf (entryAt d i) ≡ number
+      → (k : ℕ) × (k < i) × (orderOf number < orderOf (entryAt d k))
+  unfolding stopOf passes
+  none-behind e i l q =
+      let s : ℕ = stopOf d number in
+      let here = bearing i q in
+      let most : s ≤ i =
+      ltb-false i s (not-yes (ltb i s) (λ t. true-false (sym (ends-bearing i here) ∙ index-before (endsAt d number) (entries d) i (ltb-true i s t)))) in
+      let inside : s < entries d = omega arith in
+      let no : bears d number s ≡ false =
+      not-yes (bears d number s) (λ b. let a = index-stop b in let z = missing-is d _ e in omega arith) in
+      let before : s < i = lt-of-le-ne most (λ z. true-false (sym here ∙ rw z at no)) in
+      (s, before, ltb-true _ _ (ends-so s no (index-hit (endsAt d number) (entries d) inside)))
 
   pub searched : (a : Answer) → a ≡ searchOf d number → Searched d number a
   searched a e = record {
@@ -68,6 +191,7 @@ module _ (d number : List ℕ) where
     tells = record {
       inside = λ i g. let p = answer-gives _ _ i (sym e ∙ g) in let q = some-inside (p .0) in omega (arith, p .1);
       bearer = λ i g. let p = answer-gives _ _ i (sym e ∙ g) in rw (← p .1) (some-bears (p .0));
-      nowhere = λ g. none-bears (answer-number _ _ 19 (sym e ∙ g) .0);
+      first = λ i g k l. let p = answer-gives _ _ i (sym e ∙ g) in some-first (p .0) k (rw (p .1) l);
+      behind = λ g. none-behind (answer-number _ _ 19 (sym e ∙ g) .0);
     };
   }

@@ -13,8 +13,9 @@ value-take e n zero l = refl
 value-take e n (suc k) l =
     ap₂ (λ (a b : ℕ). a * 10 + (b - 48)) (value-take e n k (omega arith)) (getD-take n e k 0 l)
 
-pub same-order : (a b : List ℕ) → take 8 a ≡ take 8 b → orderOf a ≡ orderOf b
+pub order-front : (s : List ℕ) → orderOf (take 8 s) ≡ orderOf s
 unfolding orderOf
-same-order a b e =
-    let eight : 8 ≤ 8 = omega arith in
-    sym (value-take a 8 8 eight) ∙ ap (λ (s : List ℕ). decimalValue s 8) e ∙ value-take b 8 8 eight
+order-front s = let eight : 8 ≤ 8 = omega arith in value-take s 8 8 eight
+
+pub same-order : (a b : List ℕ) → take 8 a ≡ take 8 b → orderOf a ≡ orderOf b
+same-order a b e = sym (order-front a) ∙ ap orderOf e ∙ order-front b

@@ -1,6 +1,7 @@
 // Runs the readings of 01, Plate readings, that are not marked P: files on both sides of the limits of checking, under a good key, each
 // good but for what its line names. Prints what checking answered. Then makes each other call of `archive` on the sample archive, and opens
-// once more into a buffer that is a byte short. Then runs the block of RFC 5794, A.1, by each engine as `roundtrip::run_by` picks it.
+// once more into a buffer that is a byte short. Then searches bare directories, which no other program does. Then runs the block of RFC
+// 5794, A.1, by each engine as `roundtrip::run_by` picks it.
 // tests/known_answers/make_expected.py makes the stored output from the model of the archive and from libcrypto. The readings marked P are
 // the one theorem of proofs/Readings.
 use archive::Checked;
@@ -167,15 +168,19 @@ fn sample_file() -> [u8; 57] {
     file
 }
 
-// The second job, whose index is not 0.
-fn print_found(key: &[u8], file: &[u8]) {
-    let found = archive::find(key, file, b"24000018");
-    print(b"find 24000018: ");
+// The end of a line: what finding or a search answers.
+fn print_place(found: Found) {
     match found {
-        Found::At(i) => print_number(b"index ", i as u64),
-        Found::Refused(n) => print_number(b"refused ", n as u64),
+        Found::At(i) => print_number(b": index ", i as u64),
+        Found::Refused(n) => print_number(b": refused ", n as u64),
     }
     print(b"\n");
+}
+
+// The second job, whose index is not 0.
+fn print_found(key: &[u8], file: &[u8]) {
+    print(b"find 24000018");
+    print_place(archive::find(key, file, b"24000018"));
 }
 
 // Opens the job of five bytes, and shows the buffer whole.
@@ -203,6 +208,36 @@ fn sample_calls() {
     print_opened(b"open 24000017 in 8 bytes: ", &key, &file, &mut room);
     let mut short = [b'.'; 4];
     print_opened(b"open 24000017 in 4 bytes: ", &key, &file, &mut short);
+}
+
+// A line: the number, the bare directory, and what a search of it answers.
+fn print_search(number: &[u8], directory: &[u8]) {
+    print(b"search ");
+    print(number);
+    print(b" in ");
+    print(directory);
+    print_place(directory::search(directory, number));
+}
+
+// Directories that no archive has, since they do not ascend, break off or hold no digits. Of an entry a search looks at the number only.
+fn searches() {
+    let passed = b"24000017........24000020........24000018........";
+    print_search(b"24000017", passed);
+    print_search(b"24000018", passed);
+    print_search(
+        b"24000020",
+        b"24000018........24000017........24000020........",
+    );
+    print_search(
+        b"24000018",
+        b"24000018........24000017........24000018........",
+    );
+    print_search(b"24000017", b"24000020........24000017........");
+    print_search(b"24000018", b"24000017........24000018.......");
+    print_search(b"24000010", b"2400001/........24000010........");
+    print_search(b"2400001", b"24000017........");
+    print_search(b"240000170", b"24000017........");
+    print_search(b"24000017", b"");
 }
 
 // The plain block of RFC 5794, appendix A.
@@ -247,6 +282,7 @@ fn main() {
     count_64();
     count_65();
     sample_calls();
+    searches();
     print_run(b"plain, RFC 5794 A.1: ", Engine::Plain);
     print_run(b"tables, RFC 5794 A.1: ", Engine::Tables);
 }

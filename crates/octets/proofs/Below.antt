@@ -47,16 +47,16 @@ unfolding firstIndex
 index-le p zero = omega arith
 index-le p (suc n) = step-le (p zero) _ n (index-le (λ (k : ℕ). p (suc k)) n)
 
-passed : (b : Bool) (m n : ℕ) → cond b 0 (suc m) ≡ suc n → (m ≡ n → ⊥) → ⊥
-passed true m n q h = omega arith
-passed false m n q h = h (omega arith)
+missed : (p : ℕ → Bool) (b : Bool) (m k : ℕ) → p zero ≡ b → ((j : ℕ) → j < m → p (suc j) ≡ false) → k < cond b 0 (suc m) → p k ≡ false
+missed p true m k e h l = absurd (not-suc-le-zero l)
+missed p false m zero e h l = e
+missed p false m (suc k) e h l = h k (omega arith)
 
--- the index is n: the test holds nowhere below n
-pub index-misses : (p : ℕ → Bool) (n k : ℕ) → k < n → p k ≡ true → firstIndex p n ≡ n → ⊥
+-- before the index the test fails
+pub index-before : (p : ℕ → Bool) (n k : ℕ) → k < firstIndex p n → p k ≡ false
 unfolding firstIndex
-index-misses p zero k l e h = not-suc-le-zero l
-index-misses p (suc n) zero l e h = let z : _≡_ {A = ℕ} zero (suc n) = rw e at h in omega arith
-index-misses p (suc n) (suc k) l e h = passed (p zero) _ n h (index-misses (λ (k : ℕ). p (suc k)) n k (omega arith) e)
+index-before p zero k l = absurd (not-suc-le-zero l)
+index-before p (suc n) k l = missed p (p zero) _ k refl (index-before (λ (j : ℕ). p (suc j)) n) l
 
 hit : (p : ℕ → Bool) (b : Bool) (m n : ℕ) → p zero ≡ b → (m < n → p (suc m) ≡ true) → cond b 0 (suc m) < suc n → p (cond b 0 (suc m)) ≡ true
 hit p true m n e h l = e

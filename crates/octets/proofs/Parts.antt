@@ -2,11 +2,11 @@
 -- Assumes nothing.
 use mathlib.Core.Path.{_≡_, sym, ap, ap₂, _∙_}
 use mathlib.Core.List.{List, _++_, append-nil}
-use Prim.Native.Nat.{ℕ, zero, suc, _-_, _≤_}
+use Prim.Native.Nat.{ℕ, zero, suc, _+_, _-_, _≤_}
 use native.Mathlib.Nat.{sub-zero, zero-sub, suc-sub-suc}
 use native.Mathlib.Omega.{arith}
 use lib.ListN.{length, take, drop, replicate, length-drop, drop-of-length-le}
-use lib.Seq.{take-all, take-nil}
+use lib.Seq.{take-all, take-nil, take-take, take-add, drop-at, length-take-le}
 use Rattle.octets.specs.Parts.{overwritten}
 use Rattle.octets.proofs.Fill.{filled}
 
@@ -24,6 +24,18 @@ part-cut s from n h =
     let all : length (drop from s) ≤ length s - from = simp length-drop (omega arith) in
     let more : length (drop from s) ≤ n = simp length-drop h in
     take-all (length s - from) (drop from s) all ∙ sym (take-all n (drop from s) more)
+
+-- a part that ends within the first n bytes is one of these
+part-within : (s : List ℕ) (from m n : ℕ) → from ≤ length s → from + m ≤ n → take m (drop from s) ≡ drop from (take (from + m) (take n s))
+part-within s from m n l h =
+    sym (drop-at (take from s) (take m (drop from s)) from (length-take-le from s l))
+    ∙ ap (drop from) (sym (take-take (from + m) n s h ∙ take-add from m s))
+
+-- byte strings that begin with the same n bytes have the same parts within these
+pub part-same : (s t : List ℕ) (from m n : ℕ) → from ≤ length s → from ≤ length t → from + m ≤ n → take n s ≡ take n t
+    → take m (drop from s) ≡ take m (drop from t)
+part-same s t from m n ls lt h e =
+    part-within s from m n ls h ∙ ap (λ (f : List ℕ). drop from (take (from + m) f)) e ∙ sym (part-within t from m n lt h)
 
 -- ---- bytes laid over the front
 

@@ -1,10 +1,12 @@
 -- Laws of answers, and of the parts and buffers that go with them.
 -- Assumes nothing.
 use mathlib.Core.Path.{_≡_, refl, sym, ap, _∙_}
-use mathlib.Core.List.{List, []}
+use mathlib.Core.List.{List, [], _++_}
 use Prim.Native.Nat.{ℕ, zero, suc}
 use native.Mathlib.Omega.{arith}
+use Rattle.refusals.specs.Cases.{Case, firstOf}
 use Rattle.refusals.specs.Answers.{Answer, refused, gives, answer, partFor}
+use Rattle.refusals.proofs.Cases.{first-stop}
 
 pub answer-refused : (n v : ℕ) → (n ≡ 0 → ⊥) → answer n v ≡ refused n
 answer-refused zero v h = absurd (h refl)
@@ -24,6 +26,10 @@ answer-number (suc n) v i e = (cc, λ q. omega arith)
 -- a number of cases that is not 0 is the refusal
 pub refusal-is : (n m v : ℕ) → n ≡ m → (n ≡ 0 → ⊥) → refused n ≡ answer m v
 refusal-is n m v e h = ap refused e ∙ sym (answer-refused m v (λ q. h (e ∙ q)))
+
+-- a first group of cases that refuses is what a call answers, whatever follows
+pub answer-first : (a b : List Case) (v : ℕ) → (firstOf a ≡ 0 → ⊥) → answer (firstOf (a ++ b)) v ≡ refused (firstOf a)
+answer-first a b v h = ap (λ (n : ℕ). answer n v) (first-stop a b h) ∙ answer-refused (firstOf a) v h
 
 -- ---- parts
 

@@ -1,0 +1,85 @@
+-- Finding, the body and opening come to what they do over the full search: a refused archive is not searched, and an accepted one ascends.
+-- Assumes nothing.
+use mathlib.Core.Path.{_≡_, refl, sym, ap, _∙_}
+use mathlib.Core.Bool.{not}
+use mathlib.Core.List.{List, _∷_, _++_, append-assoc}
+use Prim.Native.Nat.{ℕ, zero, suc}
+use native.Mathlib.Omega.{arith}
+use lib.ListN.{length}
+use Rattle.refusals.specs.Cases.{Case, when, firstOf}
+use Rattle.refusals.specs.Answers.{Answer, refused, answer, partFor, writtenFor}
+use Rattle.refusals.proofs.Answers.{answer-first}
+use Rattle.expansion.specs.KeySchedule.{scheduleOf}
+use Rattle.header.specs.Fields.{archiveNumber, directoryOf}
+use Rattle.jobnumber.specs.Number.{isJobNumber}
+use Rattle.directory.specs.Search.{indexOf, missingCases}
+use Rattle.directory.specs.EarlyEnd.{fullIndexOf}
+use Rattle.directory.proofs.Accepted.{sound-directories}
+use Rattle.directory.proofs.EarlyEnd.{index-full}
+use Rattle.archive.specs.Check.{checkCases}
+use Rattle.archive.specs.Find.{numberCases, findCases, findOf, bodyAt, bodyGiven}
+use Rattle.archive.specs.Open.{underKeystream, roomCases, plainOf, openCases, openOf}
+use Rattle.archive.specs.EarlyEnd.{fullFindCases, fullFindOf, fullBodyGiven, fullOpenCases, fullOpenOf, fullPlainOf, AsFull, UnchangedArchives}
+use Rattle.archive.proofs.Accepted.{accepted-directory}
+
+module _ (key file number before : List ℕ) where
+  -- what each comes to where the search has come to index i
+  abbrev casesAt : ℕ → List Case
+  casesAt i = when (not (isJobNumber number)) 18 ∷ missingCases (directoryOf file) i
+
+  abbrev findAt : ℕ → Answer
+  findAt i = answer (firstOf (checkCases key file ++ casesAt i)) i
+
+  abbrev openAt : ℕ → Answer
+  openAt i =
+      answer (firstOf ((checkCases key file ++ casesAt i) ++ roomCases (length (bodyAt file i)) (length before))) (length (bodyAt file i))
+
+  abbrev writtenAt : ℕ → List ℕ
+  writtenAt i = writtenFor (openAt i) (underKeystream (scheduleOf key) (archiveNumber file) number (bodyAt file i)) before
+
+  -- a refused archive: the index does not matter
+  module _ (refuses : firstOf (checkCases key file) ≡ 0 → ⊥) where
+    find-refused : (i : ℕ) → findAt i ≡ refused (firstOf (checkCases key file))
+    find-refused i = answer-first (checkCases key file) (casesAt i) i refuses
+
+    open-refused : (i : ℕ) → openAt i ≡ refused (firstOf (checkCases key file))
+    open-refused i =
+        let room = roomCases (length (bodyAt file i)) (length before) in
+        ap (λ (c : List Case). answer (firstOf c) (length (bodyAt file i))) (append-assoc (checkCases key file) (casesAt i) room)
+        ∙ answer-first (checkCases key file) (casesAt i ++ room) (length (bodyAt file i)) refuses
+
+  -- so any two indices will do, if they are the same where the archive is accepted
+  module _ (i j : ℕ) (same : firstOf (checkCases key file) ≡ 0 → i ≡ j) where
+    alike : {A : Type 0} (f : ℕ → A) → ((firstOf (checkCases key file) ≡ 0 → ⊥) → f i ≡ f j) → f i ≡ f j
+    alike f h = go (firstOf (checkCases key file)) refl
+      where
+        go : (n : ℕ) → firstOf (checkCases key file) ≡ n → f i ≡ f j
+        go zero q = ap f (same q)
+        go (suc n) q = h (λ z. omega arith)
+
+    find-alike : findAt i ≡ findAt j
+    find-alike = alike findAt (λ r. find-refused r i ∙ sym (find-refused r j))
+
+    open-alike : openAt i ≡ openAt j
+    open-alike = alike openAt (λ r. open-refused r i ∙ sym (open-refused r j))
+
+    written-alike : writtenAt i ≡ writtenAt j
+    unfolding writtenFor
+    written-alike = alike writtenAt (λ r. rw (open-refused r i, open-refused r j))
+
+  same-index : firstOf (checkCases key file) ≡ 0 → indexOf (directoryOf file) number ≡ fullIndexOf (directoryOf file) number
+  same-index e = index-full (directoryOf file) number (sound-directories _ _ _ (accepted-directory key file e) .ascending)
+
+pub unchanged-archives : UnchangedArchives
+unfolding numberCases findCases openCases fullFindCases fullOpenCases
+unchanged-archives key file number before =
+    let i : ℕ = indexOf (directoryOf file) number in
+    let j : ℕ = fullIndexOf (directoryOf file) number in
+    let same = same-index key file number before in
+    let found = find-alike key file number before i j same in
+    record {
+      finding = found;
+      body = ap (λ (a : Answer). partFor a (bodyAt file)) found;
+      opening = open-alike key file number before i j same;
+      bytes = written-alike key file number before i j same;
+    }
