@@ -107,7 +107,7 @@ def numbers_to_ask(case, turn):
 
 def questions():
     """Numbers that are none (18) or absent (19), on a good archive and on one that is refused itself;
-    and every job of a full one."""
+    every job of a full one; and every job of one whose numbers lie apart, with the numbers beside it."""
     good = cases.three_jobs()
     refused = cases.three_jobs()
     refused.tail = b"\0"
@@ -125,6 +125,10 @@ def questions():
     many = cases.Draft(cases.KEYS[24], 7, cases.numbered(range(64)))
     for number, _, _ in many.entries:
         yield many.case("64 jobs", 0), number
+    jobs = [(b"%08d" % number, b"job %d" % number) for number in (1, 9, 10, 2 * 10**6, 24000017, 24000019, 10**8 - 2)]
+    apart = cases.Draft(cases.KEYS[32], 7, jobs)
+    for number in sorted({int(digits) + step for digits, _ in jobs for step in (-1, 0, 1)}):
+        yield apart.case("numbers that lie apart", 0), b"%08d" % number
     empty = cases.Draft(cases.KEYS[16], 7, [])
     yield empty.case("no jobs", 0), b"24000017"
     yield empty.case("no jobs", 0), b""

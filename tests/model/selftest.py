@@ -4,6 +4,7 @@
 """
 
 import os
+import random
 import unittest
 
 import archive
@@ -13,12 +14,17 @@ import stored
 from records import records
 
 
-def refusal(call, *arguments):
+def outcome(call, *arguments):
+    """What a call answers, or its refusal."""
     try:
-        call(*arguments)
+        return "gives", call(*arguments)
     except archive.Refused as refused:
-        return refused.number
-    return 0
+        return "refused", refused.number
+
+
+def refusal(call, *arguments):
+    kind, value = outcome(call, *arguments)
+    return value if kind == "refused" else 0
 
 
 def read(path):
@@ -98,6 +104,39 @@ class Opening(unittest.TestCase):
         self.assertEqual(refusal(archive.open_job, key, file, b"24000017", 4), 20)
         self.assertEqual(refusal(archive.open_job, key, file, b"24000017", 5), 0)
         self.assertEqual(refusal(archive.open_job, key, file, b"24000018", 0), 0)
+
+
+class Searching(unittest.TestCase):
+    def test_archives_are_searched_as_in_full(self):
+        seen = 0
+        for case in cases.made():
+            if case.refusal:
+                continue
+            count = archive.check(case.key, case.file)
+            contents = case.file[archive.PLATE :][: archive.ENTRY * count]
+            there = [archive.entry_at(case.file, index).digits for index in range(count)]
+            beside = [b"%08d" % ((int(digits) + step) % 10**8) for digits in there for step in (-1, 1)]
+            for number in [b"00000000", b"99999999"] + there + beside:
+                in_full = outcome(archive.find, case.key, case.file, number)
+                self.assertEqual(outcome(archive.search, contents, number), in_full, case.name)
+                seen += 1
+        self.assertGreater(seen, 100)
+
+    def test_what_stands_after_an_entry_above_does_not_matter(self):
+        chosen = random.Random(0)
+        for _ in range(1000):
+            numbers = [b"%08d" % chosen.randrange(20) for _ in range(8)]
+            entries = [number + chosen.randbytes(8) for number in numbers]
+            asked = chosen.randrange(20)
+            above = next((i for i, number in enumerate(numbers) if int(number) > asked), None)
+            if above is None:
+                continue
+            front = b"".join(entries[: above + 1])
+            for after in (b"", chosen.randbytes(7), b"".join(entries[above + 1 :]), chosen.randbytes(64)):
+                self.assertEqual(
+                    outcome(archive.search, front + after, b"%08d" % asked),
+                    outcome(archive.search, front, b"%08d" % asked),
+                )
 
 
 class Stored(unittest.TestCase):

@@ -17,9 +17,9 @@ use Rattle.directory.specs.EarlyEnd.{fullIndexOf}
 use Rattle.directory.proofs.Accepted.{sound-directories}
 use Rattle.directory.proofs.EarlyEnd.{index-full}
 use Rattle.archive.specs.Check.{checkCases}
-use Rattle.archive.specs.Find.{numberCases, findCases, findOf, bodyAt, bodyGiven}
-use Rattle.archive.specs.Open.{underKeystream, roomCases, plainOf, openCases, openOf}
-use Rattle.archive.specs.EarlyEnd.{fullFindCases, fullFindOf, fullBodyGiven, fullOpenCases, fullOpenOf, fullPlainOf, AsFull, UnchangedArchives}
+use Rattle.archive.specs.Find.{numberCases, findCases, bodyAt}
+use Rattle.archive.specs.Open.{underKeystream, roomCases, openCases}
+use Rattle.archive.specs.EarlyEnd.{fullFindCases, fullOpenCases, UnchangedArchives}
 use Rattle.archive.proofs.Accepted.{accepted-directory}
 
 module _ (key file number before : List ℕ) where

@@ -42,8 +42,8 @@ fullOpenOf key file number room = answer (firstOf (fullOpenCases key file number
 abbrev pub fullPlainOf : Schedule → List ℕ → List ℕ → List ℕ
 fullPlainOf s file number = underKeystream s (archiveNumber file) number (fullBodyOf file number)
 
--- the calls of a key, a file and a job number come to what they do over the full search: finding; the body that is handed back; opening into
--- a buffer that held `before`, and what stands there afterwards
+-- the calls come to what they do over the full search: finding; the body that is handed back; opening into a buffer that held `before`, and
+-- what stands there afterwards
 pub record AsFull (key file number before : List ℕ) : Type 0 where
   pub finding : findOf key file number ≡ fullFindOf key file number
   pub body : bodyGiven key file number ≡ fullBodyGiven key file number

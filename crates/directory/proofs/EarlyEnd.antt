@@ -1,6 +1,6 @@
 -- The search answers the same whatever stands after an entry above the number, and on accepted directories what the full search does.
 -- Assumes nothing.
-use mathlib.Core.Path.{_≡_, refl, sym, ap, ap₂, _∙_}
+use mathlib.Core.Path.{_≡_, refl, sym, ap, _∙_}
 use mathlib.Core.Bool.{Bool, true, false}
 use mathlib.Core.List.{List}
 use Prim.Native.Nat.{ℕ, suc, _+_, _*_, _<_, _≤_}
@@ -9,14 +9,12 @@ use borrow.Author.Tests.{ltb-true, ltb-false}
 use lib.Dec.{ltb}
 use lib.ListN.{length, take}
 use Rattle.refusals.specs.Cases.{firstOf}
-use Rattle.refusals.specs.Answers.{Answer, refused, gives, answer}
-use Rattle.refusals.proofs.Booleans.{true-false, not-yes}
+use Rattle.refusals.specs.Answers.{answer}
 use Rattle.octets.specs.Below.{firstIndex}
-use Rattle.octets.proofs.Below.{index-le, index-hit, index-before}
+use Rattle.octets.proofs.Below.{index-le, index-hit, index-before, index-most}
 use Rattle.octets.proofs.Parts.{part-same}
 use Rattle.jobnumber.specs.Number.{orderOf}
 use Rattle.directory.specs.Entries.{entries, entryAt, numberOf}
-use Rattle.directory.specs.Check.{directoryCases}
 use Rattle.directory.specs.Search.{bears, passes, endsAt, stopOf, indexOf, missingCases, searchCases, searchOf}
 use Rattle.directory.specs.EarlyEnd.{EarlyEnd, fullIndexOf, Unchanged}
 use Rattle.directory.proofs.Entries.{entry-inside}
@@ -73,11 +71,11 @@ pub early-end : EarlyEnd
 unfolding stopOf
 early-end c d number k lc ld p same =
     let s : ℕ = stopOf c number in
-    let at : endsAt c number k ≡ true = ends-above c number k p in
-    let before : (j : ℕ) → j < s → endsAt c number j ≡ false = index-before (endsAt c number) (entries c) in
-    let most : s ≤ k = ltb-false k s (not-yes (ltb k s) (λ t. true-false (sym at ∙ before k (ltb-true k s t)))) in
+    let most : s ≤ k = index-most (endsAt c number) (entries c) k (ends-above c number k p) in
     let inside : s < entries c = omega arith in
-    ends-alike c d number k lc ld same s most (index-hit (endsAt c number) (entries c) inside) before
+    ends-alike c d number k lc ld same s most
+    (index-hit (endsAt c number) (entries c) inside)
+    (index-before (endsAt c number) (entries c))
 
 -- ---- the full search
 
@@ -97,9 +95,11 @@ module _ (d number : List ℕ) (ascending : (i j : ℕ) → i < j → j < entrie
       go true e =
           let inside = ltb-true f (entries d) e in
           let here = index-hit (bears d number) (entries d) inside in
-          index-found d number f inside
-          (λ k l. goes-on d number k (before k l) (not-above d number k (omega (arith, ascending k f l inside, same-place d number f here))))
-          here
+          let place = same-place d number f here in
+          let on : (k : ℕ) → k < f → endsAt d number k ≡ false =
+          λ k l. goes-on d number k (before k l) (not-above d number k (omega (arith, ascending k f l inside)))
+          in
+          index-found d number f inside on here
       go false e =
           let none : f ≡ entries d = omega (arith, ltb-false f (entries d) e, index-le (bears d number) (entries d)) in
           index-nowhere d number (λ k l. before k (omega arith)) ∙ sym none

@@ -14,7 +14,7 @@ use Rattle.refusals.proofs.Booleans.{true-false, not-yes, neither}
 use Rattle.refusals.proofs.Cases.{one-applies, one-passes}
 use Rattle.refusals.proofs.Answers.{answer-gives, answer-number, answer-none, refusal-is}
 use Rattle.octets.proofs.Equality.{same-eq, eq-same}
-use Rattle.octets.proofs.Below.{index-at, index-le, index-hit, index-before}
+use Rattle.octets.proofs.Below.{index-at, index-le, index-hit, index-before, index-most}
 use Rattle.jobnumber.specs.Number.{orderOf}
 use Rattle.jobnumber.proofs.Order.{order-front}
 use Rattle.directory.specs.Entries.{entries, entryAt, numberOf}
@@ -52,7 +52,7 @@ module _ (d : List ℕ) (i : ℕ) where
 module _ (d number : List ℕ) where
   -- ---- an entry by itself
 
-  pub bearer : (i : ℕ) → bears d number i ≡ true → numberOf (entryAt d i) ≡ number
+  bearer : (i : ℕ) → bears d number i ≡ true → numberOf (entryAt d i) ≡ number
   unfolding bears
   bearer i e = same-eq _ _ e
 
@@ -68,7 +68,7 @@ module _ (d number : List ℕ) where
   unfolding passes
   not-above i l = le-ltb _ _ l
 
-  pub ends-bearing : (i : ℕ) → bears d number i ≡ true → endsAt d number i ≡ true
+  ends-bearing : (i : ℕ) → bears d number i ≡ true → endsAt d number i ≡ true
   unfolding endsAt
   ends-bearing i e = rw e
 
@@ -111,7 +111,7 @@ module _ (d number : List ℕ) where
     pub index-found : bears d number i ≡ true → indexOf d number ≡ i
     index-found e = let at = stops (ends-bearing i e) in index-stop (rw at e) ∙ at
 
-    pub index-past : passes d number i ≡ true → indexOf d number ≡ entries d
+    index-past : passes d number i ≡ true → indexOf d number ≡ entries d
     unfolding passes
     index-past p =
         let above : orderOf number < orderOf (entryAt d i) = ltb-true _ _ p in
@@ -177,8 +177,7 @@ module _ (d number : List ℕ) where
   none-behind e i l q =
       let s : ℕ = stopOf d number in
       let here = bearing i q in
-      let most : s ≤ i =
-      ltb-false i s (not-yes (ltb i s) (λ t. true-false (sym (ends-bearing i here) ∙ index-before (endsAt d number) (entries d) i (ltb-true i s t)))) in
+      let most : s ≤ i = index-most (endsAt d number) (entries d) i (ends-bearing i here) in
       let inside : s < entries d = omega arith in
       let no : bears d number s ≡ false =
       not-yes (bears d number s) (λ b. let a = index-stop b in let z = missing-is d _ e in omega arith) in

@@ -26,11 +26,6 @@ all-no p (suc n) (suc i) l h = rw (all-no (λ (k : ℕ). p (suc k)) n i (omega a
 
 -- ---- at the first
 
-pub index-none : (p : ℕ → Bool) (n : ℕ) → ((k : ℕ) → k < n → p k ≡ false) → firstIndex p n ≡ n
-unfolding firstIndex
-index-none p zero h = refl
-index-none p (suc n) h = rw (h zero (omega arith)) (ap suc (index-none (λ (k : ℕ). p (suc k)) n (λ k l. h (suc k) (omega arith))))
-
 pub index-at : (p : ℕ → Bool) (n i : ℕ) → i < n → ((k : ℕ) → k < i → p k ≡ false) → p i ≡ true → firstIndex p n ≡ i
 unfolding firstIndex
 index-at p zero i l h e = absurd (not-suc-le-zero l)
@@ -46,6 +41,13 @@ pub index-le : (p : ℕ → Bool) (n : ℕ) → firstIndex p n ≤ n
 unfolding firstIndex
 index-le p zero = omega arith
 index-le p (suc n) = step-le (p zero) _ n (index-le (λ (k : ℕ). p (suc k)) n)
+
+-- it is no further than any number at which the test holds
+pub index-most : (p : ℕ → Bool) (n k : ℕ) → p k ≡ true → firstIndex p n ≤ k
+unfolding firstIndex
+index-most p zero k e = omega arith
+index-most p (suc n) zero e = rw e (omega arith)
+index-most p (suc n) (suc k) e = step-le (p zero) _ k (index-most (λ (j : ℕ). p (suc j)) n k e)
 
 missed : (p : ℕ → Bool) (b : Bool) (m k : ℕ) → p zero ≡ b → ((j : ℕ) → j < m → p (suc j) ≡ false) → k < cond b 0 (suc m) → p k ≡ false
 missed p true m k e h l = absurd (not-suc-le-zero l)
