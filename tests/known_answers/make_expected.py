@@ -10,15 +10,16 @@ Then a line a call on the sample archive, examples/sample:
 
     find NUMBER: index I
     directory: HEX
-    body of NUMBER: HEX
-    open NUMBER in N bytes: ANSWER, buffer HEX
+    body of NUMBER: 'HEX'
+    open NUMBER in N bytes: bytes M, buffer HEX
 
-ANSWER is `bytes M` or `refused R`; the buffer of N bytes is shown whole, and had FILL everywhere
-before. Then a line a search of bare contents, which no program reaches otherwise,
+or `refused R` in place of the index or the bytes, and no bytes of a body. The buffer of N bytes is
+shown whole, and had FILL everywhere before. Then a line a search of bare contents, in which FILL
+stands for what a search does not look at,
 
-    search NUMBER in CONTENTS: index I
+    search 'NUMBER' in 'CONTENTS': index I
 
-or `refused 19`; of an entry only the number is looked at, and dots stand for the rest. Then a line an engine, `ENGINE, RFC 5794 A.1: HEX`: the appendix's block, encrypted.
+or `refused R`. Then a line an engine, `ENGINE, RFC 5794 A.1: HEX`: the appendix's block, encrypted.
 """
 
 import os
@@ -35,19 +36,26 @@ FILL = b"."
 BLOCK = bytes(0x11 * i for i in range(16))
 
 
-# What stands before the number asked for, in entries that a dot fills up; a short last one is no entry.
+# The number asked for, the numbers of the contents, and how many bytes are cut off their end.
 SEARCHES = [
-    # the numbers of the contents, what is cut off the end, the number asked for
-    ((b"24000017", b"24000020", b"24000018"), 0, b"24000017"),
-    ((b"24000017", b"24000020", b"24000018"), 0, b"24000018"),
-    ((b"24000018", b"24000017", b"24000020"), 0, b"24000020"),
-    ((b"24000018", b"24000017", b"24000018"), 0, b"24000018"),
-    ((b"24000020", b"24000017"), 0, b"24000017"),
-    ((b"24000017", b"24000018"), 1, b"24000018"),
-    ((b"2400001/", b"24000010"), 0, b"24000010"),
-    ((b"24000017",), 0, b"2400001"),
-    ((b"24000017",), 0, b"240000170"),
-    ((), 0, b"24000017"),
+    (b"24000016", [b"24000017", b"24000020"], 0),
+    (b"24000018", [b"24000017", b"24000020"], 0),
+    (b"24000021", [b"24000017", b"24000020"], 0),
+    (b"24000017", [b"24000017", b"24000020", b"24000018"], 0),
+    (b"24000018", [b"24000017", b"24000020", b"24000018"], 0),
+    (b"24000020", [b"24000017", b"24000020", b"24000018"], 0),
+    (b"24000017", [b"24000018", b"24000017", b"24000018"], 0),
+    (b"24000018", [b"24000018", b"24000017", b"24000018"], 0),
+    (b"24000020", [b"24000018", b"24000017", b"24000020"], 0),
+    (b"24000018", [b"24000017", b"24000018"], 1),
+    (b"24000017", [], 0),
+    (b"", [], 0),
+    (b"", [b"00000000"], 0),
+    (b"2400001", [b"24000010"], 0),
+    (b"240000170", [b"24000017"], 0),
+    (b"24000010", [b"2400001/", b"24000010"], 0),
+    (b"24000020", [b"2400001;", b"24000020"], 0),
+    (b"2400001/", [b"24000010", b"2400001/"], 0),
 ]
 
 
@@ -86,8 +94,18 @@ def directory(file):
     return file[archive.PLATE :][: archive.ENTRY * archive.check(KEY, file)]
 
 
+def place(call, *arguments):
+    try:
+        return "index %d" % call(*arguments)
+    except archive.Refused as refused:
+        return "refused %d" % refused.number
+
+
 def body(file, number):
-    entry = archive.entry_at(file, archive.find(KEY, file, number))
+    try:
+        entry = archive.entry_at(file, archive.find(KEY, file, number))
+    except archive.Refused:
+        return b""
     return file[entry.start :][: entry.length]
 
 
@@ -101,24 +119,22 @@ def opened(file, number, room):
 
 
 def calls(file):
-    # the second job, whose index is not 0
-    yield "find 24000018", "index %d" % archive.find(KEY, file, b"24000018")
+    # the second job, whose index is not 0, and one that is not there
+    for number in (b"24000018", b"24000019"):
+        yield "find %s" % number.decode(), place(archive.find, KEY, file, number)
     yield "directory", directory(file).hex()
-    yield "body of 24000017", body(file, b"24000017").hex()
-    # three bytes more than the body, then one fewer
-    for room in (8, 4):
-        yield "open 24000017 in %d bytes" % room, opened(file, b"24000017", room)
+    for number in (b"24000017", b"24000019"):
+        yield "body of %s" % number.decode(), "'%s'" % body(file, number).hex()
+    # one that is not there; three bytes more than the body, then one fewer
+    for number, room in ((b"24000019", 8), (b"24000017", 8), (b"24000017", 4)):
+        yield "open %s in %d bytes" % (number.decode(), room), opened(file, number, room)
 
 
 def searches():
-    for numbers, cut, number in SEARCHES:
-        contents = b"".join(digits.ljust(archive.ENTRY, FILL) for digits in numbers)
-        contents = contents[: len(contents) - cut]
-        try:
-            given = "index %d" % archive.search(contents, number)
-        except archive.Refused as refused:
-            given = "refused %d" % refused.number
-        yield "search %s in %s" % (number.decode(), contents.decode()), given
+    for number, numbers, cut in SEARCHES:
+        entries = b"".join(digits.ljust(archive.ENTRY, FILL) for digits in numbers)
+        contents = entries[: len(entries) - cut]
+        yield "search '%s' in '%s'" % (number.decode(), contents.decode()), place(archive.search, contents, number)
 
 
 if __name__ == "__main__":

@@ -2,9 +2,10 @@
 -- Assumes nothing.
 use mathlib.Core.Path.{_≡_, refl, sym, ap, _∙_}
 use mathlib.Core.Bool.{not}
-use mathlib.Core.List.{List, _∷_, _++_, append-assoc}
+use mathlib.Core.List.{List, [], _∷_, _++_, append-assoc}
 use Prim.Native.Nat.{ℕ, zero, suc}
 use native.Mathlib.Omega.{arith}
+use lib.Dec.{eqb}
 use lib.ListN.{length}
 use Rattle.refusals.specs.Cases.{Case, when, firstOf}
 use Rattle.refusals.specs.Answers.{Answer, refused, answer, partFor, writtenFor}
@@ -12,8 +13,9 @@ use Rattle.refusals.proofs.Answers.{answer-first}
 use Rattle.expansion.specs.KeySchedule.{scheduleOf}
 use Rattle.header.specs.Fields.{archiveNumber, directoryOf}
 use Rattle.jobnumber.specs.Number.{isJobNumber}
-use Rattle.directory.specs.Search.{indexOf, missingCases}
-use Rattle.directory.specs.EarlyEnd.{fullIndexOf}
+use Rattle.directory.specs.Entries.{entries}
+use Rattle.directory.specs.Search.{indexOf, searchCases}
+use Rattle.directory.specs.EarlyEnd.{fullIndexOf, fullSearchCases}
 use Rattle.directory.proofs.Accepted.{sound-directories}
 use Rattle.directory.proofs.EarlyEnd.{index-full}
 use Rattle.archive.specs.Check.{checkCases}
@@ -25,7 +27,7 @@ use Rattle.archive.proofs.Accepted.{accepted-directory}
 module _ (key file number before : List ℕ) where
   -- what each comes to where the search has come to index i
   abbrev casesAt : ℕ → List Case
-  casesAt i = when (not (isJobNumber number)) 18 ∷ missingCases (directoryOf file) i
+  casesAt i = when (not (isJobNumber number)) 18 ∷ when (eqb i (entries (directoryOf file))) 19 ∷ []
 
   abbrev findAt : ℕ → Answer
   findAt i = answer (firstOf (checkCases key file ++ casesAt i)) i
@@ -71,7 +73,7 @@ module _ (key file number before : List ℕ) where
   same-index e = index-full (directoryOf file) number (sound-directories _ _ _ (accepted-directory key file e) .ascending)
 
 pub unchanged-archives : UnchangedArchives
-unfolding numberCases findCases openCases fullFindCases fullOpenCases
+unfolding searchCases numberCases findCases openCases fullSearchCases fullFindCases fullOpenCases
 unchanged-archives key file number before =
     let i : ℕ = indexOf (directoryOf file) number in
     let j : ℕ = fullIndexOf (directoryOf file) number in

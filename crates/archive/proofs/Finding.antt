@@ -18,7 +18,7 @@ use Rattle.octets.specs.Parts.{liesAt}
 use Rattle.header.specs.Fields.{directoryOf}
 use Rattle.directory.specs.Entries.{entries}
 use Rattle.jobnumber.specs.Number.{digits, isJobNumber}
-use Rattle.directory.specs.Search.{indexOf, missingCases, searchCases}
+use Rattle.directory.specs.Search.{indexOf, searchCases}
 use Rattle.directory.proofs.Accepted.{sound-directories}
 use Rattle.directory.proofs.Searching.{some-inside, some-bears}
 use Rattle.directory.proofs.EarlyEnd.{none-bears}
@@ -32,7 +32,7 @@ use Rattle.archive.proofs.Accepted.{accepted-directory, accepted-entrie
 
 module _ (file number : List ℕ) where
   pub number-positive : positive (numberCases file number) ≡ true
-  unfolding numberCases missingCases positive
+  unfolding numberCases searchCases positive
   number-positive = refl
 
   -- no case of the number: those of the search are none

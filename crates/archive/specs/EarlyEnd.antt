@@ -18,7 +18,7 @@ use Rattle.archive.specs.Check.{checkCases}
 use Rattle.archive.specs.Find.{findOf, bodyAt, bodyGiven}
 use Rattle.archive.specs.Open.{underKeystream, roomCases, plainOf, openOf}
 
--- finding: after the check 18, and 19 where no entry bears the number
+-- finding: after the whole check 18, then 19 where no entry bears the number
 unfoldable pub fullFindCases : List ℕ → List ℕ → List ℕ → List Case
 fullFindCases key file number = checkCases key file ++ (when (not (isJobNumber number)) 18 ∷ fullSearchCases (directoryOf file) number)
 

@@ -33,7 +33,7 @@ bodyOf file number = bodyAt file (indexOf (directoryOf file) number)
 abbrev pub plainOf : Schedule → List ℕ → List ℕ → List ℕ
 plainOf s file number = underKeystream s (archiveNumber file) number (bodyOf file number)
 
--- the case of a buffer of so many bytes for a body of so many
+-- the case of a body of `size` bytes that does not fit into a buffer of `room`
 unfoldable pub roomCases : ℕ → ℕ → List Case
 roomCases size room = when (ltb room size) 20 ∷ []
 

@@ -2,21 +2,21 @@
 -- Assumes nothing.
 use mathlib.Core.Path.{_≡_, refl, sym, ap, _∙_}
 use mathlib.Core.Bool.{Bool, true, false}
-use mathlib.Core.List.{List}
+use mathlib.Core.List.{List, [], _∷_}
 use Prim.Native.Nat.{ℕ, suc, _+_, _*_, _<_, _≤_}
 use native.Mathlib.Omega.{arith}
 use borrow.Author.Tests.{ltb-true, ltb-false}
-use lib.Dec.{ltb}
+use lib.Dec.{eqb, ltb}
 use lib.ListN.{length, take}
-use Rattle.refusals.specs.Cases.{firstOf}
+use Rattle.refusals.specs.Cases.{when, firstOf}
 use Rattle.refusals.specs.Answers.{answer}
 use Rattle.octets.specs.Below.{firstIndex}
 use Rattle.octets.proofs.Below.{index-le, index-hit, index-before, index-most}
 use Rattle.octets.proofs.Parts.{part-same}
 use Rattle.jobnumber.specs.Number.{orderOf}
 use Rattle.directory.specs.Entries.{entries, entryAt, numberOf}
-use Rattle.directory.specs.Search.{bears, passes, endsAt, stopOf, indexOf, missingCases, searchCases, searchOf}
-use Rattle.directory.specs.EarlyEnd.{EarlyEnd, fullIndexOf, Unchanged}
+use Rattle.directory.specs.Search.{bears, above, endsAt, stopOf, indexOf, searchCases, searchOf}
+use Rattle.directory.specs.EarlyEnd.{EarlyEnd, fullIndexOf, fullSearchCases, Unchanged}
 use Rattle.directory.proofs.Entries.{entry-inside}
 use Rattle.directory.proofs.Accepted.{sound-directories}
 use Rattle.directory.proofs.Searching.{bearing, same-place, not-above, ends-above, goes-on, ends-so}
@@ -39,13 +39,13 @@ module _ (c d number : List ℕ) (k : ℕ) (lc : k < entries c) (ld : k < entrie
   unfolding bears
   bears-same i l = rw (entry-same i l)
 
-  passes-same : (i : ℕ) → i ≤ k → passes c number i ≡ passes d number i
-  unfolding passes
-  passes-same i l = rw (entry-same i l)
+  above-same : (i : ℕ) → i ≤ k → above c number i ≡ above d number i
+  unfolding above
+  above-same i l = rw (entry-same i l)
 
   ends-same : (i : ℕ) → i ≤ k → endsAt c number i ≡ endsAt d number i
   unfolding endsAt
-  ends-same i l = rw (bears-same i l, passes-same i l)
+  ends-same i l = rw (bears-same i l, above-same i l)
 
   -- both searches end at entry s
   module _ (s : ℕ) (l : s ≤ k) (ends : endsAt c number s ≡ true) (before : (j : ℕ) → j < s → endsAt c number j ≡ false) where
@@ -65,7 +65,7 @@ module _ (c d number : List ℕ) (k : ℕ) (lc : k < entries c) (ld : k < entrie
         go true e = sym (search-at c number s ic before e) ∙ search-at d number s id before-same (sym (bears-same s l) ∙ e)
         go false e =
             let p = ends-so c number s e ends in
-            sym (search-past c number s ic before p) ∙ search-past d number s id before-same (sym (passes-same s l) ∙ p)
+            sym (search-past c number s ic before p) ∙ search-past d number s id before-same (sym (above-same s l) ∙ p)
 
 pub early-end : EarlyEnd
 unfolding stopOf
@@ -111,5 +111,6 @@ module _ (d number : List ℕ) (ascending : (i j : ℕ) → i < j → j < entrie
       omega (arith, above .2, ascending (above .0) i (above .1) l, same-place d number i (bearing d number i q))
 
 pub unchanged : Unchanged
+unfolding searchCases fullSearchCases
 unchanged d number from limit e =
-    ap (λ (i : ℕ). answer (firstOf (missingCases d i)) i) (index-full d number (sound-directories d from limit e .ascending))
+    ap (λ (i : ℕ). answer (firstOf (when (eqb i (entries d)) 19 ∷ [])) i) (index-full d number (sound-directories d from limit e .ascending))

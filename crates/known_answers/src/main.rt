@@ -1,7 +1,7 @@
 // Runs the readings of 01, Plate readings, that are not marked P: files on both sides of the limits of checking, under a good key, each
-// good but for what its line names. Prints what checking answered. Then makes each other call of `archive` on the sample archive, and opens
-// once more into a buffer that is a byte short. Then searches bare directories, which no other program does. Then runs the block of RFC
-// 5794, A.1, by each engine as `roundtrip::run_by` picks it.
+// good but for what its line names. Prints what checking answered. Then makes each other call of `archive` on the sample archive, for jobs
+// that are there and for one that is not, and opens once more into a buffer that is a byte short. Then searches bare directories, also such
+// as no archive has. Then runs the block of RFC 5794, A.1, by each engine as `roundtrip::run_by` picks it.
 // tests/known_answers/make_expected.py makes the stored output from the model of the archive and from libcrypto. The readings marked P are
 // the one theorem of proofs/Readings.
 use archive::Checked;
@@ -177,67 +177,105 @@ fn print_place(found: Found) {
     print(b"\n");
 }
 
-// The second job, whose index is not 0.
-fn print_found(key: &[u8], file: &[u8]) {
-    print(b"find 24000018");
-    print_place(archive::find(key, file, b"24000018"));
+fn print_found(key: &[u8], file: &[u8], number: &[u8]) {
+    print(b"find ");
+    print(number);
+    print_place(archive::find(key, file, number));
 }
 
-// Opens the job of five bytes, and shows the buffer whole.
-fn print_opened(case: &[u8], key: &[u8], file: &[u8], buffer: &mut [u8]) {
-    let opened = archive::open(key, file, b"24000017", buffer);
-    print(case);
+fn print_body(key: &[u8], file: &[u8], number: &[u8]) {
+    print(b"body of ");
+    print(number);
+    print(b": '");
+    print_hex(archive::body(key, file, number));
+    print(b"'\n");
+}
+
+// Opens a job, and shows the buffer whole.
+fn print_opened(key: &[u8], file: &[u8], number: &[u8], buffer: &mut [u8]) {
+    print(b"open ");
+    print(number);
+    print_number(b" in ", buffer.len() as u64);
+    let opened = archive::open(key, file, number, buffer);
     match opened {
-        Opened::Bytes(n) => print_number(b"bytes ", n as u64),
-        Opened::Refused(n) => print_number(b"refused ", n as u64),
+        Opened::Bytes(n) => print_number(b" bytes: bytes ", n as u64),
+        Opened::Refused(n) => print_number(b" bytes: refused ", n as u64),
     }
     print_line(b", buffer ", buffer);
 }
 
-// Each call once, and opening with a byte too few. A buffer keeps what it had past the plain bytes, and where it is too short.
-fn sample_calls() {
-    let key = KEY;
-    let file = sample_file();
-    print_found(&key, &file);
-    print_line(b"directory: ", archive::directory(&key, &file));
-    print_line(
-        b"body of 24000017: ",
-        archive::body(&key, &file, b"24000017"),
-    );
+// A job that is not there, and the one of five bytes. A buffer keeps what it had where the job is not there, past the plain bytes, and where
+// it is too short.
+fn open_jobs(key: &[u8], file: &[u8]) {
     let mut room = [b'.'; 8];
-    print_opened(b"open 24000017 in 8 bytes: ", &key, &file, &mut room);
+    print_opened(key, file, b"24000019", &mut room);
+    print_opened(key, file, b"24000017", &mut room);
     let mut short = [b'.'; 4];
-    print_opened(b"open 24000017 in 4 bytes: ", &key, &file, &mut short);
+    print_opened(key, file, b"24000017", &mut short);
 }
 
-// A line: the number, the bare directory, and what a search of it answers.
+// Each call on the sample, for jobs that are there, the index of the second not being 0, and for one that is not.
+fn sample_calls(key: &[u8], file: &[u8]) {
+    print_found(key, file, b"24000018");
+    print_found(key, file, b"24000019");
+    print_line(b"directory: ", archive::directory(key, file));
+    print_body(key, file, b"24000017");
+    print_body(key, file, b"24000019");
+    open_jobs(key, file);
+}
+
+// A line: the number, the bare directory, and what a search of it answers. Of an entry a search looks at the number only.
 fn print_search(number: &[u8], directory: &[u8]) {
-    print(b"search ");
+    print(b"search '");
     print(number);
-    print(b" in ");
+    print(b"' in '");
     print(directory);
+    print(b"'");
     print_place(directory::search(directory, number));
 }
 
-// Directories that no archive has, since they do not ascend, break off or hold no digits. Of an entry a search looks at the number only.
-fn searches() {
-    let passed = b"24000017........24000020........24000018........";
-    print_search(b"24000017", passed);
-    print_search(b"24000018", passed);
+// Numbers that are not there: below, between and above the entries.
+fn search_absent() {
+    let directory = b"24000017........24000020........";
+    print_search(b"24000016", directory);
+    print_search(b"24000018", directory);
+    print_search(b"24000021", directory);
+}
+
+// A directory that does not ascend: what stands after the first entry above the number does not show.
+fn search_passed() {
+    let directory = b"24000017........24000020........24000018........";
+    print_search(b"24000017", directory);
+    print_search(b"24000018", directory);
+    print_search(b"24000020", directory);
+}
+
+// An entry above the number before any other, entries below it, and the number twice.
+fn search_unordered() {
+    let directory = b"24000018........24000017........24000018........";
+    print_search(b"24000017", directory);
+    print_search(b"24000018", directory);
     print_search(
         b"24000020",
         b"24000018........24000017........24000020........",
     );
-    print_search(
-        b"24000018",
-        b"24000018........24000017........24000018........",
-    );
-    print_search(b"24000017", b"24000020........24000017........");
+}
+
+// A last part of an entry, no entry, and numbers of other lengths.
+fn search_lengths() {
     print_search(b"24000018", b"24000017........24000018.......");
-    print_search(b"24000010", b"2400001/........24000010........");
-    print_search(b"2400001", b"24000017........");
-    print_search(b"240000170", b"24000017........");
     print_search(b"24000017", b"");
+    print_search(b"", b"");
+    print_search(b"", b"00000000........");
+    print_search(b"2400001", b"24000010........");
+    print_search(b"240000170", b"24000017........");
+}
+
+// Bytes that are no digits: one that counts as 0, one that counts as 11, and one in the number.
+fn search_other_bytes() {
+    print_search(b"24000010", b"2400001/........24000010........");
+    print_search(b"24000020", b"2400001;........24000020........");
+    print_search(b"2400001/", b"24000010........2400001/........");
 }
 
 // The plain block of RFC 5794, appendix A.
@@ -281,8 +319,14 @@ fn main() {
     long_file();
     count_64();
     count_65();
-    sample_calls();
-    searches();
+    let key = KEY;
+    let file = sample_file();
+    sample_calls(&key, &file);
+    search_absent();
+    search_passed();
+    search_unordered();
+    search_lengths();
+    search_other_bytes();
     print_run(b"plain, RFC 5794 A.1: ", Engine::Plain);
     print_run(b"tables, RFC 5794 A.1: ", Engine::Tables);
 }
