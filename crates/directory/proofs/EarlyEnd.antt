@@ -113,4 +113,5 @@ module _ (d number : List ℕ) (ascending : (i j : ℕ) → i < j → j < entrie
 pub unchanged : Unchanged
 unfolding searchCases fullSearchCases
 unchanged d number from limit e =
-    ap (λ (i : ℕ). answer (firstOf (when (eqb i (entries d)) 19 ∷ [])) i) (index-full d number (sound-directories d from limit e .ascending))
+    ap (λ (i : ℕ). answer (firstOf (when (eqb i (entries d)) 19 ∷ [])) i)
+    (index-full d number (sound-directories d from limit e .ascending))

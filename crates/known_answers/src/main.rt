@@ -204,8 +204,8 @@ fn print_opened(key: &[u8], file: &[u8], number: &[u8], buffer: &mut [u8]) {
     print_line(b", buffer ", buffer);
 }
 
-// A job that is not there, and the one of five bytes. A buffer keeps what it had where the job is not there, past the plain bytes, and where
-// it is too short.
+// A job that is not there, and the one of five bytes. A buffer keeps what it had where the job is not there, past the plain bytes, and
+// where it is too short.
 fn open_jobs(key: &[u8], file: &[u8]) {
     let mut room = [b'.'; 8];
     print_opened(key, file, b"24000019", &mut room);
