@@ -86,8 +86,8 @@ def search(contents, number):
 
 
 def find(key, file, number):
-    """The index of the job's entry. Refusals of `check`, then 18 and 19. Every entry is asked, as document 01 has
-    it: an early end must not show."""
+    """The index of the job's entry. Refusals of `check`, then 18 and 19. Only an entry that bears the number ends
+    this search, as in document 01: an early end must not show."""
     count = check(key, file)
     refuse_if(len(number) != 8 or not all_digits(number), 18)
     for index in range(count):

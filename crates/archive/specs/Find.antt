@@ -16,7 +16,8 @@ use Rattle.jobnumber.specs.Number.{isJobNumber}
 use Rattle.directory.specs.Search.{indexOf, searchCases}
 use Rattle.archive.specs.Check.{checkCases}
 
--- the cases of the job number: it is not exactly eight bytes, all digits; no entry bears it
+-- the cases of the job number: it is not exactly eight bytes, all digits; the search comes to no entry, which in a file that has passed its
+-- checks says that none bears it (`Finds`)
 unfoldable pub numberCases : List ℕ → List ℕ → List Case
 numberCases file number = when (not (isJobNumber number)) 18 ∷ searchCases (directoryOf file) number
 

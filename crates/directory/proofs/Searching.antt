@@ -1,18 +1,20 @@
 -- Laws of the search: the index that it comes to, by where it ends, and what its answer tells.
 -- Assumes nothing.
-use mathlib.Core.Path.{_≡_, refl, sym, ap, _∙_}
+use mathlib.Core.Path.{_≡_, refl, sym, ap, ap₂, _∙_}
 use mathlib.Core.Bool.{Bool, true, false, _||_}
 use mathlib.Core.List.{List}
 use Prim.Native.Nat.{ℕ, _<_, _≤_}
 use native.Mathlib.Omega.{arith}
-use borrow.Author.Tests.{eqb-true, eqb-false, eq-eqb, ne-eqb, ltb-true, ltb-false, le-ltb}
+use borrow.Author.Tests.{eqb-true, eqb-false, eq-eqb, ne-eqb, ltb-true, ltb-false, lt-ltb, le-ltb}
 use lib.Arith.{lt-of-le-ne}
 use lib.Dec.{eqb, ltb}
+use lib.ListN.{take, drop}
 use Rattle.refusals.specs.Cases.{firstOf}
 use Rattle.refusals.specs.Answers.{Answer, refused, gives}
 use Rattle.refusals.proofs.Booleans.{true-false, not-yes, neither}
 use Rattle.refusals.proofs.Cases.{one-applies, one-passes}
 use Rattle.refusals.proofs.Answers.{answer-gives, answer-number, answer-none, refusal-is}
+use Rattle.octets.specs.Equality.{sameBytes}
 use Rattle.octets.proofs.Equality.{same-eq, eq-same}
 use Rattle.octets.proofs.Below.{index-at, index-le, index-hit, index-before, index-most}
 use Rattle.jobnumber.specs.Number.{orderOf}
@@ -67,6 +69,21 @@ module _ (d number : List ℕ) where
   pub not-above : (i : ℕ) → orderOf (entryAt d i) ≤ orderOf number → above d number i ≡ false
   unfolding above
   not-above i l = le-ltb _ _ l
+
+  -- what the code reads of entry i: its place p in the order beside that of the number, and whether its eight bytes are the number
+  module _ (i : ℕ) (e : List ℕ) (entry : e ≡ entryAt d i) where
+    module _ (a p : ℕ) (asked : a ≡ orderOf number) (place : p ≡ orderOf e) where
+      pub read-above : a < p → above d number i ≡ true
+      unfolding above
+      read-above l = ap₂ ltb (sym asked) (sym (place ∙ ap orderOf entry)) ∙ lt-ltb a p l
+
+      pub read-not-above : p ≤ a → above d number i ≡ false
+      unfolding above
+      read-not-above l = ap₂ ltb (sym asked) (sym (place ∙ ap orderOf entry)) ∙ le-ltb a p l
+
+    pub read-bears : (s : List ℕ) (b : Bool) → s ≡ take 8 (drop 0 e) → b ≡ sameBytes s number → bears d number i ≡ b
+    unfolding bears
+    read-bears s b front same = ap (λ (x : List ℕ). sameBytes x number) (sym (front ∙ ap (take 8) entry)) ∙ sym same
 
   ends-bearing : (i : ℕ) → bears d number i ≡ true → endsAt d number i ≡ true
   unfolding endsAt
