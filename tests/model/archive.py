@@ -1,4 +1,4 @@
-"""The rules of the dryer archive, layout 1, read straight from document 01, with document 02's request b.
+"""The rules of the dryer archive, layout 1, read straight from document 01, with document 02's requests b and e.
 
 A model for tests: plain Python over whole numbers and bytes, written apart from the proved code and
 sharing nothing with it. Refusals carry document 01's numbers.
@@ -42,6 +42,20 @@ def entry_at(file, index):
     return Entry(file[at : at + 8], number_at(file, at + 8, 4), number_at(file, at + 12, 4))
 
 
+def place(number):
+    """A job number's place in the order of the contents: its year, 1970 to 2069, then the other six digits.
+
+    In other bytes than eight digits a byte below the digit 0, or one that is missing, counts as 0.
+    """
+    values = [max(byte - 0x30, 0) for byte in number[:8].ljust(8, b"0")]
+    year = 10 * values[0] + values[1]
+    year += 1900 if year >= 70 else 2000
+    others = 0
+    for value in values[2:]:
+        others = 10 * others + value
+    return 10**6 * year + others
+
+
 def key_check(key):
     return libcrypto.forward(key, b"\xff" * 16)[:8]
 
@@ -62,17 +76,12 @@ def check(key, file):
     for index in range(count):
         entry = entry_at(file, index)
         refuse_if(not all_digits(entry.digits), 13)
-        refuse_if(index > 0 and int(entry.digits) <= int(entry_at(file, index - 1).digits), 14)
+        refuse_if(index > 0 and place(entry.digits) <= place(entry_at(file, index - 1).digits), 14)
         refuse_if(entry.start != end, 15)
         end = entry.start + entry.length
         refuse_if(end > len(file), 16)
     refuse_if(end != len(file), 17)
     return count
-
-
-def value(number):
-    """Eight bytes as a decimal number; a byte below the digit 0, or one that is missing, counts as 0."""
-    return sum(max(byte - 0x30, 0) * 10 ** (7 - place) for place, byte in enumerate(number[:8]))
 
 
 def search(contents, number):
@@ -81,7 +90,7 @@ def search(contents, number):
         digits = contents[ENTRY * index :][:8]
         if digits == number:
             return index
-        refuse_if(value(digits) > value(number), 19)
+        refuse_if(place(digits) > place(number), 19)
     raise Refused(19)
 
 

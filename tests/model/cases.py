@@ -23,7 +23,7 @@ class Draft:
     """An archive in parts. It is good as made; a test then changes a part."""
 
     def __init__(self, key, archive_number, jobs):
-        """`jobs`: pairs of eight digits and plain bytes, in ascending order."""
+        """`jobs`: pairs of eight digits and plain bytes, in the order of years."""
         self.key = key
         self.layout = 1
         self.key_length = len(key)
@@ -120,8 +120,8 @@ def good():
     spread = filled([0, 1, 255, 256, 257, 4095, 4096, 4097])
     yield Draft(KEYS[24], 7, numbered(spread)).case("good: nine jobs, 65,536 bytes", 0)
     yield Draft(KEYS[16], 7, numbered(filled([1008] * 63))).case("good: 64 jobs, 65,536 bytes", 0)
-    ends = [(b"00000000", b"a"), (b"00000001", b"bc"), (b"09999999", b""), (b"99999999", b"def")]
-    yield Draft(KEYS[16], 7, ends).case("good: lowest and highest job numbers", 0)
+    ends = [(b"70000000", b"a"), (b"99999999", b"bc"), (b"00000000", b""), (b"69999999", b"def")]
+    yield Draft(KEYS[16], 7, ends).case("good: first and last job numbers of both spans", 0)
 
 
 def key_lengths():
@@ -247,9 +247,6 @@ def entries():
         jobs = numbered([1] * 63)
         draft = Draft(KEYS[16], 7, jobs + [(digits(last), b"x")])
         yield draft.case("63 ascending, then %d" % last, refusal)
-    draft = Draft(KEYS[16], 7, [(b"99999999", b""), (b"00000000", b"")])
-    yield draft.case("99999999 then 00000000", 14)
-
     for index in range(3):
         for off in (-20, -16, -1, 1, 16, 0x100, 0x10000, 0x1000000, 0x80000000):
             draft = three_jobs()
@@ -310,6 +307,48 @@ def entries():
     draft = three_jobs()
     draft.count = 0
     yield draft.case("none counted of three entries", 17)
+
+
+# Job numbers in order: 1970 to 1999, then 2000 to 2069. Both sides of both ends of each span.
+IN_ORDER = [b"70000000", b"70999999", b"71000000", b"97000004", b"98999999", b"99000000", b"99999999"]
+IN_ORDER += [b"00000000", b"00999999", b"01000000", b"05000001", b"68999999", b"69000000", b"69999999"]
+
+
+def years():
+    """14 by the order of years."""
+    for i, first in enumerate(IN_ORDER):
+        for j, second in enumerate(IN_ORDER):
+            draft = Draft(KEYS[16], 7, [(first, b"first"), (second, b"second")])
+            yield draft.case("%s then %s" % (first.decode(), second.decode()), 0 if i < j else 14)
+
+    def jobs(numbers):
+        return [(number, text(i % 5)) for i, number in enumerate(numbers)]
+
+    yield Draft(KEYS[24], 7, jobs(IN_ORDER)).case("jobs of all years, in order", 0)
+    yield Draft(KEYS[24], 7, jobs(sorted(IN_ORDER))).case("jobs of all years, by the plain number", 14)
+    for start in range(1, len(IN_ORDER)):
+        turned = IN_ORDER[start:] + IN_ORDER[:start]
+        yield Draft(KEYS[24], 7, jobs(turned)).case("jobs of all years, from %s on" % turned[0].decode(), 14)
+    old = [digits(97000000 + i) for i in range(32)]
+    new = [digits(5000000 + i) for i in range(32)]
+    yield Draft(KEYS[32], 7, jobs(old + new)).case("32 old jobs, then 32 new", 0)
+    yield Draft(KEYS[32], 7, jobs(new + old)).case("32 new jobs, then 32 old", 14)
+    yield Draft(KEYS[32], 7, jobs(new[:1] + old)).case("a new job, then 32 old", 14)
+    yield Draft(KEYS[32], 7, jobs(new + old[:1])).case("32 new jobs, then an old one", 14)
+    yield Draft(KEYS[32], 7, jobs(old + new[:1] + old[:1])).case("32 old jobs, a new one, then an old one", 14)
+
+    # beside another fault of the same entry, and of the file
+    for second, number in ((b"97000004", 14), (b"24000004", 0)):
+        for fault in (13, 15, 16):
+            draft = Draft(KEYS[16], 7, [(b"05000001", b"first"), (second, b"second")])
+            ENTRY_FAULTS[fault](draft, 1)
+            first = min(number, fault) if number else fault
+            yield draft.case("05000001 then %s with fault %d" % (second.decode(), fault), first)
+        for fault in WHOLE_FAULTS:
+            draft = Draft(KEYS[16], 7, [(b"05000001", b"first"), (second, b"second")])
+            WHOLE_FAULTS[fault](draft)
+            first = min(number, fault) if number else fault
+            yield draft.case("05000001 then %s with fault %d" % (second.decode(), fault), first)
 
 
 # ---- faults that can be put into one draft together
@@ -466,8 +505,9 @@ def random_changes(seed, count):
     generator = random.Random(seed)
     for i in range(count):
         key = KEYS[generator.choice((16, 24, 32))]
-        numbers = sorted(generator.sample(range(10**8), generator.randrange(6)))
-        jobs = [(digits(n), generator.randbytes(generator.choice((0, 1, 16, 17, 40)))) for n in numbers]
+        numbers = [digits(n) for n in generator.sample(range(10**8), generator.randrange(6))]
+        numbers.sort(key=archive.place if generator.randrange(4) else int)
+        jobs = [(number, generator.randbytes(generator.choice((0, 1, 16, 17, 40)))) for number in numbers]
         file = Draft(key, generator.randrange(2**32), jobs).file()
         for _ in range(generator.randrange(4)):
             how = generator.randrange(4)
@@ -485,5 +525,5 @@ def random_changes(seed, count):
 
 def made():
     """Every case that was made for a known answer."""
-    for group in (good, key_lengths, file_lengths, plates, no_jobs, entries, pairs, pile):
+    for group in (good, key_lengths, file_lengths, plates, no_jobs, entries, years, pairs, pile):
         yield from group()

@@ -125,7 +125,8 @@ def questions():
     many = cases.Draft(cases.KEYS[24], 7, cases.numbered(range(64)))
     for number, _, _ in many.entries:
         yield many.case("64 jobs", 0), number
-    jobs = [(b"%08d" % number, b"job %d" % number) for number in (1, 9, 10, 2 * 10**6, 24000017, 24000019, 10**8 - 2)]
+    numbers = (70000000, 70000002, 97000004, 10**8 - 2, 1, 9, 10, 2 * 10**6, 24000017, 24000019, 69999998)
+    jobs = [(b"%08d" % number, b"job %d" % number) for number in numbers]
     apart = cases.Draft(cases.KEYS[32], 7, jobs)
     for number in sorted({int(digits) + step for digits, _ in jobs for step in (-1, 0, 1)}):
         yield apart.case("numbers that lie apart", 0), b"%08d" % number

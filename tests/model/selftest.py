@@ -27,6 +27,15 @@ def refusal(call, *arguments):
     return value if kind == "refused" else 0
 
 
+def plain_refusal(key, file):
+    """The refusal where case 14 goes by the plain number, as in document 01 alone."""
+    place, archive.place = archive.place, lambda number: int(number)
+    try:
+        return refusal(archive.check, key, file)
+    finally:
+        archive.place = place
+
+
 def read(path):
     with open(os.path.join(stored.TOP, path), "rb") as file:
         return file.read()
@@ -64,6 +73,35 @@ class Readings(unittest.TestCase):
         text = b"jobs 2\n24000017 52 5\n24000018 57 0\n"
         self.assertEqual(archive.jobs_text(sample.key, sample.file()), text)
         self.assertEqual(archive.jobs_text(sample.key, b""), b"refused 5\n")
+
+
+class Years(unittest.TestCase):
+    """Document 02, e."""
+
+    def test_the_order(self):
+        self.assertEqual(archive.place(b"97000004"), 1997000004)
+        self.assertEqual(archive.place(b"05000001"), 2005000001)
+        self.assertEqual([archive.place(digits) // 10**6 for digits in (b"70000000", b"99999999")], [1970, 1999])
+        self.assertEqual([archive.place(digits) // 10**6 for digits in (b"00000000", b"69999999")], [2000, 2069])
+        self.assertEqual(sorted(sorted(cases.IN_ORDER), key=archive.place), cases.IN_ORDER)
+
+    def test_one_span_is_judged_as_before(self):
+        """By the plain number; and a mixed archive in plain order, accepted so, gets 14."""
+        judged = {"the same": 0, "mixed": 0}
+        for case in cases.made():
+            now = refusal(archive.check, case.key or b"", case.file)
+            before = plain_refusal(case.key or b"", case.file)
+            count = archive.number_at(case.file, 2, 2)
+            numbers = [archive.entry_at(case.file, index).digits for index in range(count if count <= 64 else 0)]
+            spans = {number >= b"70" for number in numbers if len(number) == 8 and archive.all_digits(number)}
+            if len(spans) < 2:
+                self.assertEqual(now, before, case.name)
+                judged["the same"] += 1
+            elif before == 0:
+                self.assertEqual(now, 14, case.name)
+                judged["mixed"] += 1
+        self.assertGreater(judged["the same"], 1000)
+        self.assertGreater(judged["mixed"], 10)
 
 
 class Cases(unittest.TestCase):
@@ -125,17 +163,18 @@ class Searching(unittest.TestCase):
     def test_what_stands_after_an_entry_above_does_not_matter(self):
         chosen = random.Random(0)
         for _ in range(1000):
-            numbers = [b"%08d" % chosen.randrange(20) for _ in range(8)]
+            numbers = chosen.choices(cases.IN_ORDER, k=8)
             entries = [number + chosen.randbytes(8) for number in numbers]
-            asked = chosen.randrange(20)
-            above = next((i for i, number in enumerate(numbers) if int(number) > asked), None)
+            asked = chosen.choice(cases.IN_ORDER)
+            place = cases.IN_ORDER.index
+            above = next((i for i, number in enumerate(numbers) if place(number) > place(asked)), None)
             if above is None:
                 continue
             front = b"".join(entries[: above + 1])
             for after in (b"", chosen.randbytes(7), b"".join(entries[above + 1 :]), chosen.randbytes(64)):
                 self.assertEqual(
-                    outcome(archive.search, front + after, b"%08d" % asked),
-                    outcome(archive.search, front, b"%08d" % asked),
+                    outcome(archive.search, front + after, asked),
+                    outcome(archive.search, front, asked),
                 )
 
 

@@ -35,6 +35,9 @@ def stored():
     many = cases.Draft(cases.KEYS[32], 7, cases.numbered(range(64)))
     files.update(_case("64-jobs", many.key, many.file()))
     files.update(_case("65537-bytes", too_long.key, too_long.file()))
+    years = [(b"97000004", b"old"), (b"05000001", b"newer")]
+    files.update(_case("old-jobs-first", sample.key, cases.Draft(sample.key, 7, years).file()))
+    files.update(_case("old-jobs-last", sample.key, cases.Draft(sample.key, 7, years[::-1]).file()))
     for crate in ("jobs", "open"):
         files["crates/%s/stdin" % crate] = sample.file()
         files["crates/%s/data/key.bin" % crate] = sample.key

@@ -27,7 +27,7 @@ use Rattle.header.specs.Fields.{directoryEnd, directoryOf, bodiesEnd}
 use Rattle.header.specs.Cases.{headerCases}
 use Rattle.header.proofs.Cases.{notOfHeader, header-positive, header-lacks}
 use Rattle.directory.proofs.Cases.{notOfDirectory, directory-positive, directory-lacks}
-use Rattle.archive.specs.Check.{keyCheck, fileCases, checkCases}
+use Rattle.archive.specs.Check.{keyCheck, fileCases, fileCasesBy, checkCases, checkCasesBy}
 
 -- m is the number of no case of checking: computed where m is a numeral
 abbrev pub notOfCheck : ℕ → Bool
@@ -40,35 +40,35 @@ front-copied b xs eb ex =
     let past : length xs ≤ length b = omega arith in
     ap₂ (λ (u v : List ℕ). u ++ v) (ap (λ (n : ℕ). take n b) ex) (drop-of-length-le xs past) ∙ append-nil (take 8 b)
 
-module _ (key file : List ℕ) where
-  pub check-positive : positive (checkCases key file) ≡ true
-  unfolding checkCases fileCases
+module _ (order : List ℕ → ℕ) (key file : List ℕ) where
+  pub check-positive : positive (checkCasesBy order key file) ≡ true
+  unfolding checkCasesBy fileCasesBy
   check-positive =
       positive-append (keyCases (length key)) _ (key-positive (length key))
       (positive-append (headerCases (length key) (keyCheck (scheduleOf key)) file) _ (header-positive _ _ file)
-      (directory-positive (directoryOf file) (directoryEnd file) (bodiesEnd file)))
+      (directory-positive order (directoryOf file) (directoryEnd file) (bodiesEnd file)))
 
-  pub check-lacks : (m : ℕ) → notOfCheck m ≡ true → lacks m (checkCases key file) ≡ true
-  unfolding checkCases fileCases
+  pub check-lacks : (m : ℕ) → notOfCheck m ≡ true → lacks m (checkCasesBy order key file) ≡ true
+  unfolding checkCasesBy fileCasesBy
   check-lacks m e =
       let h = both-true (not (eqb 1 m) && true) (notOfHeader m && notOfDirectory m) e in
       let g = both-true (notOfHeader m) (notOfDirectory m) (h .1) in
       lacks-append m (keyCases (length key)) _ (key-lacks m (length key) (h .0))
       (lacks-append m (headerCases (length key) (keyCheck (scheduleOf key)) file) _ (header-lacks _ _ file m (g .0))
-      (directory-lacks (directoryOf file) (directoryEnd file) (bodiesEnd file) m (g .1)))
+      (directory-lacks order (directoryOf file) (directoryEnd file) (bodiesEnd file) m (g .1)))
 
-  -- the two ways out of admission
-  module _ (p : Prepared) (r : Prepares key p) (n : ℕ) where
-    -- the key is refused
-    pub check-else : OneOf (1 ∷ 2 ∷ []) (tagOf outcome.the-type (p .outcome)) → n ≡ number (p .outcome) → n ≡ firstOf (checkCases key file)
-    unfolding checkCases
-    check-else t e =
-        e ∙ r .number ∙ sym (first-stop (keyCases (length key)) _ (λ q. number-else (p .outcome) t (r .number ∙ q)))
+-- the two ways out of admission
+module _ (key file : List ℕ) (p : Prepared) (r : Prepares key p) (n : ℕ) where
+  -- the key is refused
+  pub check-else : OneOf (1 ∷ 2 ∷ []) (tagOf outcome.the-type (p .outcome)) → n ≡ number (p .outcome) → n ≡ firstOf (checkCases key file)
+  unfolding checkCasesBy
+  check-else t e =
+      e ∙ r .number ∙ sym (first-stop (keyCases (length key)) _ (λ q. number-else (p .outcome) t (r .number ∙ q)))
 
-    -- the key is good: the file is asked
-    pub check-ready : p .outcome ≡ Ready → n ≡ firstOf (fileCases (p .schedule) (length key) file) → n ≡ firstOf (checkCases key file)
-    unfolding checkCases
-    check-ready o e =
-        e
-        ∙ ap (λ (s : Schedule). firstOf (fileCases s (length key) file)) (r .schedule)
-        ∙ sym (first-pass (keyCases (length key)) _ (key-positive (length key)) (sym (r .number) ∙ ap number o))
+  -- the key is good: the file is asked
+  pub check-ready : p .outcome ≡ Ready → n ≡ firstOf (fileCases (p .schedule) (length key) file) → n ≡ firstOf (checkCases key file)
+  unfolding checkCasesBy
+  check-ready o e =
+      e
+      ∙ ap (λ (s : Schedule). firstOf (fileCases s (length key) file)) (r .schedule)
+      ∙ sym (first-pass (keyCases (length key)) _ (key-positive (length key)) (sym (r .number) ∙ ap number o))

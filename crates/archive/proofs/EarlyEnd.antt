@@ -12,7 +12,7 @@ use Rattle.refusals.specs.Answers.{Answer, refused, answer, partFor, writtenFor
 use Rattle.refusals.proofs.Answers.{answer-first}
 use Rattle.expansion.specs.KeySchedule.{scheduleOf}
 use Rattle.header.specs.Fields.{archiveNumber, directoryOf}
-use Rattle.jobnumber.specs.Number.{isJobNumber}
+use Rattle.jobnumber.specs.Number.{isJobNumber, orderOf}
 use Rattle.directory.specs.Entries.{entries}
 use Rattle.directory.specs.Search.{indexOf, searchCases}
 use Rattle.directory.specs.EarlyEnd.{fullIndexOf, fullSearchCases}
@@ -70,7 +70,7 @@ module _ (key file number before : List ℕ) where
     written-alike = alike writtenAt (λ r. rw (open-refused r i, open-refused r j))
 
   same-index : firstOf (checkCases key file) ≡ 0 → indexOf (directoryOf file) number ≡ fullIndexOf (directoryOf file) number
-  same-index e = index-full (directoryOf file) number (sound-directories _ _ _ (accepted-directory key file e) .ascending)
+  same-index e = index-full (directoryOf file) number (sound-directories _ _ _ (accepted-directory orderOf key file e) .ascending)
 
 pub unchanged-archives : UnchangedArchives
 unfolding searchCases numberCases findCases openCases fullSearchCases fullFindCases fullOpenCases

@@ -17,7 +17,7 @@ use Rattle.refusals.proofs.Answers.{answer-gives, answer-number, answer-first, 
 use Rattle.octets.specs.Parts.{liesAt}
 use Rattle.header.specs.Fields.{directoryOf}
 use Rattle.directory.specs.Entries.{entries}
-use Rattle.jobnumber.specs.Number.{digits, isJobNumber}
+use Rattle.jobnumber.specs.Number.{digits, isJobNumber, orderOf}
 use Rattle.directory.specs.Search.{indexOf, searchCases}
 use Rattle.directory.proofs.Accepted.{sound-directories}
 use Rattle.directory.proofs.Searching.{some-inside, some-bears}
@@ -71,21 +71,21 @@ module _ (key file number : List ℕ) where
   unfolding findCases
   find-asked e =
       ap (λ (k : ℕ). answer k (indexOf (directoryOf file) number))
-      (sym (first-pass (checkCases key file) (numberCases file number) (check-positive key file) e))
+      (sym (first-pass (checkCases key file) (numberCases file number) (check-positive orderOf key file) e))
 
   found-stages : firstOf (findCases key file number) ≡ 0 → (firstOf (checkCases key file) ≡ 0) × (firstOf (numberCases file number) ≡ 0)
   unfolding findCases
-  found-stages = first-none (checkCases key file) (numberCases file number) (check-positive key file)
+  found-stages = first-none (checkCases key file) (numberCases file number) (check-positive orderOf key file)
 
   missing-stages : firstOf (findCases key file number) ≡ 19 → (firstOf (checkCases key file) ≡ 0) × (firstOf (numberCases file number) ≡ 19)
   unfolding findCases
   missing-stages e = go (firstOf (checkCases key file)) refl
     where
       go : (n : ℕ) → firstOf (checkCases key file) ≡ n → (firstOf (checkCases key file) ≡ 0) × (firstOf (numberCases file number) ≡ 19)
-      go zero q = (q, sym (first-pass (checkCases key file) (numberCases file number) (check-positive key file) q) ∙ e)
+      go zero q = (q, sym (first-pass (checkCases key file) (numberCases file number) (check-positive orderOf key file) q) ∙ e)
       go (suc n) q =
           let same = first-stop (checkCases key file) (numberCases file number) (λ z. let y = sym q ∙ z in omega arith) in
-          absurd (first-lacks 19 (checkCases key file) (omega arith) (check-lacks key file 19 refl) (sym same ∙ e))
+          absurd (first-lacks 19 (checkCases key file) (omega arith) (check-lacks orderOf key file 19 refl) (sym same ∙ e))
 
   -- what an index tells
   module _ (i : ℕ) (e : findOf key file number ≡ gives i) where
@@ -101,19 +101,19 @@ module _ (key file number : List ℕ) where
 
     -- the body lies within the file
     pub found-within : bodyStart file i ≤ length file
-    found-within = let w = accepted-within key file (found .0) i found-inside in omega arith
+    found-within = let w = accepted-within orderOf key file (found .0) i found-inside in omega arith
 
   pub finds : (a : Answer) → a ≡ findOf key file number → Finds key file number a
   finds a e = record {
     answered = e;
     inside = λ i g.
         let f = found i (sym e ∙ g) in
-        omega (arith, found-inside i (sym e ∙ g), accepted-entries key file (f .0));
+        omega (arith, found-inside i (sym e ∙ g), accepted-entries orderOf key file (f .0));
     bearer = λ i g. let f = found i (sym e ∙ g) in rw (← f .2) (some-bears (directoryOf file) number (f .1));
     nowhere = λ g i l.
         let q = missing-stages (answer-number _ _ 19 (sym e ∙ g) .0) in
-        let n = accepted-entries key file (q .0) in
-        let ascending = sound-directories _ _ _ (accepted-directory key file (q .0)) .ascending in
+        let n = accepted-entries orderOf key file (q .0) in
+        let ascending = sound-directories _ _ _ (accepted-directory orderOf key file (q .0)) .ascending in
         none-bears (directoryOf file) number ascending (number-missing file number (q .1)) i (omega arith);
   }
 

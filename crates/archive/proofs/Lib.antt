@@ -4,4 +4,5 @@ pub mod Finding
 pub mod Plaintext
 pub mod Opening
 pub mod EarlyEnd
+pub mod Spans
 pub mod Theorems

@@ -15,6 +15,7 @@ use Rattle.expansion.specs.KeySchedule.{scheduleOf}
 use Rattle.ctr.specs.Counter.{keystream, addStream}
 use Rattle.ctr.proofs.Streams.{length-stream}
 use Rattle.header.specs.Fields.{archiveNumber, directoryOf}
+use Rattle.jobnumber.specs.Number.{orderOf}
 use Rattle.directory.specs.Search.{indexOf}
 use Rattle.archive.specs.Check.{checkCases}
 use Rattle.archive.specs.Find.{numberCases, findCases, bodyAt}
@@ -91,7 +92,7 @@ module _ (key file number before : List ℕ) where
   opens-asked s a after e es o =
       let room = roomCases (length (bodyOf file number)) (length before) in
       let all = ap firstOf (append-assoc (checkCases key file) (numberCases file number) room) in
-      let pass = first-pass (checkCases key file) (numberCases file number ++ room) (check-positive key file) e in
+      let pass = first-pass (checkCases key file) (numberCases file number ++ room) (check-positive orderOf key file) e in
       record {
         answered = o .answered ∙ ap (λ (n : ℕ). answer n (length (bodyOf file number))) (sym (all ∙ pass));
         bytes = o .bytes ∙ ap (λ (t : Schedule). writtenFor a (plainOf t file number) before) es;

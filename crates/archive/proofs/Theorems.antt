@@ -14,6 +14,7 @@ use Rattle.refusals.proofs.Answers.{answer-gives}
 use Rattle.ctr.specs.Counter.{keystream}
 use Rattle.ctr.proofs.Streams.{length-stream, stream-at, stream-twice}
 use Rattle.header.specs.Fields.{countOf, directoryEnd, directoryOf, bodiesEnd}
+use Rattle.jobnumber.specs.Number.{orderOf}
 use Rattle.directory.specs.Entries.{entries, entryAt, startOf, sizeOf}
 use Rattle.directory.specs.Check.{bodyFrom}
 use Rattle.directory.specs.Sound.{Sound}
@@ -42,8 +43,8 @@ module _ (file : List ℕ) (sound : Sound (directoryOf file) (directoryEnd file)
 pub sound-archives : SoundArchives
 sound-archives key file n e =
     let p = answer-gives (firstOf (checkCases key file)) (countOf file) n e in
-    let count : entries (directoryOf file) ≡ n = accepted-entries key file (p .0) ∙ p .1 in
-    let sound = sound-directories (directoryOf file) (directoryEnd file) (bodiesEnd file) (accepted-directory key file (p .0)) in
+    let count : entries (directoryOf file) ≡ n = accepted-entries orderOf key file (p .0) ∙ p .1 in
+    let sound = sound-directories (directoryOf file) (directoryEnd file) (bodiesEnd file) (accepted-directory orderOf key file (p .0)) in
     record {
       counted = count;
       sound = sound;

@@ -15,7 +15,8 @@ use Rattle.circuit.specs.declared.Schedule.{Schedule}
 use Rattle.expansion.specs.KeySchedule.{scheduleOf}
 use Rattle.header.specs.Fields.{countOf, directoryEnd, directoryOf, bodiesEnd}
 use Rattle.header.specs.Cases.{headerCases}
-use Rattle.directory.specs.Check.{directoryCases}
+use Rattle.jobnumber.specs.Number.{orderOf}
+use Rattle.directory.specs.Check.{directoryCasesBy}
 use Rattle.archive.specs.declared.Checked.{Checked}
 use Rattle.archive.specs.declared.Checked.the-variants.{Jobs, Refused}
 
@@ -23,13 +24,22 @@ use Rattle.archive.specs.declared.Checked.the-variants.{Jobs, Refused}
 unfoldable pub keyCheck : Schedule → List ℕ
 keyCheck s = take 8 (encrypted s (replicate 16 255))
 
--- the cases of the file, under a schedule from a key of so many bytes: its header, then its directory and bodies
-unfoldable pub fileCases : Schedule → ℕ → List ℕ → List Case
-fileCases s keysize file = headerCases keysize (keyCheck s) file ++ directoryCases (directoryOf file) (directoryEnd file) (bodiesEnd file)
+-- the cases of the file, under a schedule from a key of so many bytes: its header, then its directory and bodies, by any order of job
+-- numbers
+unfoldable pub fileCasesBy : (List ℕ → ℕ) → Schedule → ℕ → List ℕ → List Case
+fileCasesBy order s keysize file =
+    headerCases keysize (keyCheck s) file ++ directoryCasesBy order (directoryOf file) (directoryEnd file) (bodiesEnd file)
 
--- the cases of checking
-unfoldable pub checkCases : List ℕ → List ℕ → List Case
-checkCases key file = keyCases (length key) ++ fileCases (scheduleOf key) (length key) file
+-- the cases of checking, by any order
+unfoldable pub checkCasesBy : (List ℕ → ℕ) → List ℕ → List ℕ → List Case
+checkCasesBy order key file = keyCases (length key) ++ fileCasesBy order (scheduleOf key) (length key) file
+
+-- by the order of job numbers
+abbrev pub fileCases : Schedule → ℕ → List ℕ → List Case
+fileCases s keysize file = fileCasesBy orderOf s keysize file
+
+abbrev pub checkCases : List ℕ → List ℕ → List Case
+checkCases key file = checkCasesBy orderOf key file
 
 -- what checking answers: the job count
 abbrev pub checkOf : List ℕ → List ℕ → Answer

@@ -1,6 +1,7 @@
 -- The early end of the search changes no answer on an archive (02, b: "All answers on archives are unchanged"). What finding, handing back
 -- the body and opening come to over the full search, and the statement that they come to the same; the theorem is `unchanged-archives` of
 -- proofs/EarlyEnd. Checking, the directory and the listing do not search.
+-- The definitions are over any order of job numbers in case 14, so that specs/Spans can use them with the order of before.
 -- Assumes nothing.
 use mathlib.Core.Path.{_≡_}
 use mathlib.Core.Bool.{not}
@@ -12,44 +13,47 @@ use Rattle.refusals.specs.Answers.{Answer, answer, partFor, writtenFor}
 use Rattle.circuit.specs.declared.Schedule.{Schedule}
 use Rattle.expansion.specs.KeySchedule.{scheduleOf}
 use Rattle.header.specs.Fields.{archiveNumber, directoryOf}
-use Rattle.jobnumber.specs.Number.{isJobNumber}
+use Rattle.jobnumber.specs.Number.{isJobNumber, orderOf}
 use Rattle.directory.specs.EarlyEnd.{fullIndexOf, fullSearchCases}
-use Rattle.archive.specs.Check.{checkCases}
+use Rattle.archive.specs.Check.{checkCasesBy}
 use Rattle.archive.specs.Find.{findOf, bodyAt, bodyGiven}
 use Rattle.archive.specs.Open.{underKeystream, roomCases, plainOf, openOf}
 
 -- finding: after the whole check 18, then 19 where no entry bears the number
-unfoldable pub fullFindCases : List ℕ → List ℕ → List ℕ → List Case
-fullFindCases key file number = checkCases key file ++ (when (not (isJobNumber number)) 18 ∷ fullSearchCases (directoryOf file) number)
+unfoldable pub fullFindCases : (List ℕ → ℕ) → List ℕ → List ℕ → List ℕ → List Case
+fullFindCases order key file number =
+    checkCasesBy order key file ++ (when (not (isJobNumber number)) 18 ∷ fullSearchCases (directoryOf file) number)
 
-abbrev pub fullFindOf : List ℕ → List ℕ → List ℕ → Answer
-fullFindOf key file number = answer (firstOf (fullFindCases key file number)) (fullIndexOf (directoryOf file) number)
+abbrev pub fullFindOf : (List ℕ → ℕ) → List ℕ → List ℕ → List ℕ → Answer
+fullFindOf order key file number = answer (firstOf (fullFindCases order key file number)) (fullIndexOf (directoryOf file) number)
 
 -- the body: handed back, and the one that is opened
-abbrev pub fullBodyGiven : List ℕ → List ℕ → List ℕ → List ℕ
-fullBodyGiven key file number = partFor (fullFindOf key file number) (bodyAt file)
+abbrev pub fullBodyGiven : (List ℕ → ℕ) → List ℕ → List ℕ → List ℕ → List ℕ
+fullBodyGiven order key file number = partFor (fullFindOf order key file number) (bodyAt file)
 
 abbrev pub fullBodyOf : List ℕ → List ℕ → List ℕ
 fullBodyOf file number = bodyAt file (fullIndexOf (directoryOf file) number)
 
 -- opening: how many plain bytes there are, and which
-unfoldable pub fullOpenCases : List ℕ → List ℕ → List ℕ → ℕ → List Case
-fullOpenCases key file number room = fullFindCases key file number ++ roomCases (length (fullBodyOf file number)) room
+unfoldable pub fullOpenCases : (List ℕ → ℕ) → List ℕ → List ℕ → List ℕ → ℕ → List Case
+fullOpenCases order key file number room =
+    fullFindCases order key file number ++ roomCases (length (fullBodyOf file number)) room
 
-abbrev pub fullOpenOf : List ℕ → List ℕ → List ℕ → ℕ → Answer
-fullOpenOf key file number room = answer (firstOf (fullOpenCases key file number room)) (length (fullBodyOf file number))
+abbrev pub fullOpenOf : (List ℕ → ℕ) → List ℕ → List ℕ → List ℕ → ℕ → Answer
+fullOpenOf order key file number room =
+    answer (firstOf (fullOpenCases order key file number room)) (length (fullBodyOf file number))
 
 abbrev pub fullPlainOf : Schedule → List ℕ → List ℕ → List ℕ
 fullPlainOf s file number = underKeystream s (archiveNumber file) number (fullBodyOf file number)
 
 -- the calls come to what they do over the full search: finding; the body that is handed back; opening into a buffer that held `before`, and
 -- what stands there afterwards
-pub record AsFull (key file number before : List ℕ) : Type 0 where
-  pub finding : findOf key file number ≡ fullFindOf key file number
-  pub body : bodyGiven key file number ≡ fullBodyGiven key file number
-  pub opening : openOf key file number (length before) ≡ fullOpenOf key file number (length before)
+pub record AsFull (order : List ℕ → ℕ) (key file number before : List ℕ) : Type 0 where
+  pub finding : findOf key file number ≡ fullFindOf order key file number
+  pub body : bodyGiven key file number ≡ fullBodyGiven order key file number
+  pub opening : openOf key file number (length before) ≡ fullOpenOf order key file number (length before)
   pub bytes : writtenFor (openOf key file number (length before)) (plainOf (scheduleOf key) file number) before
-      ≡ writtenFor (fullOpenOf key file number (length before)) (fullPlainOf (scheduleOf key) file number) before
+      ≡ writtenFor (fullOpenOf order key file number (length before)) (fullPlainOf (scheduleOf key) file number) before
 
 abbrev pub UnchangedArchives : Type 0
-UnchangedArchives = (key file number before : List ℕ) → AsFull key file number before
+UnchangedArchives = (key file number before : List ℕ) → AsFull orderOf key file number before

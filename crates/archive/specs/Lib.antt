@@ -4,3 +4,4 @@ pub mod Open
 pub mod Internal
 pub mod Theorems
 pub mod EarlyEnd
+pub mod Spans

@@ -10,7 +10,7 @@ use Rattle.refusals.specs.Cases.{firstOf, itemByItem, positive, lacks}
 use Rattle.refusals.proofs.Booleans.{both-true}
 use Rattle.refusals.proofs.Cases.{clear, one-applies, one-passes, positive-append, lacks-append, items-positive, items-lacks}
 use Rattle.directory.specs.Entries.{entries}
-use Rattle.directory.specs.Check.{bodyFrom, entryCases, restCases, directoryCases}
+use Rattle.directory.specs.Check.{bodyFrom, entryCasesBy, restCases, directoryCasesBy}
 
 -- m is the number of no case of an entry, and of no case at all: computed where m is a numeral
 abbrev pub notOfEntry : ℕ → Bool
@@ -19,17 +19,9 @@ notOfEntry m = not (eqb 13 m) && (not (eqb 14 m) && (not (eqb 15 m) && (not (eqb
 abbrev pub notOfDirectory : ℕ → Bool
 notOfDirectory m = notOfEntry m && (not (eqb 17 m) && true)
 
+-- ---- what remains after the last body
+
 module _ (d : List ℕ) (from limit : ℕ) where
-  pub entry-positive : (i : ℕ) → positive (entryCases d from limit i) ≡ true
-  unfolding entryCases positive
-  entry-positive i = refl
-
-  entry-lacks : (m : ℕ) → notOfEntry m ≡ true → (i : ℕ) → lacks m (entryCases d from limit i) ≡ true
-  unfolding entryCases lacks
-  entry-lacks m e i = e
-
-  -- ---- what remains after the last body
-
   pub rest-some : (bodyFrom d from (entries d) ≡ limit → ⊥) → firstOf (restCases d from limit) ≡ 17
   unfolding restCases
   rest-some h = one-applies _ 17 (rw (ne-eqb _ _ h))
@@ -50,19 +42,28 @@ module _ (d : List ℕ) (from limit : ℕ) where
   unfolding restCases lacks
   rest-lacks m e = e
 
-  -- ---- all of them
+-- ---- all of them, by any order
 
-  pub entries-positive : positive (itemByItem (entryCases d from limit) (entries d)) ≡ true
-  entries-positive = items-positive (entryCases d from limit) (entries d) entry-positive
+module _ (order : List ℕ → ℕ) (d : List ℕ) (from limit : ℕ) where
+  pub entry-positive : (i : ℕ) → positive (entryCasesBy order d from limit i) ≡ true
+  unfolding entryCasesBy positive
+  entry-positive i = refl
 
-  pub directory-positive : positive (directoryCases d from limit) ≡ true
-  unfolding directoryCases
-  directory-positive = positive-append (itemByItem (entryCases d from limit) (entries d)) _ entries-positive rest-positive
+  entry-lacks : (m : ℕ) → notOfEntry m ≡ true → (i : ℕ) → lacks m (entryCasesBy order d from limit i) ≡ true
+  unfolding entryCasesBy lacks
+  entry-lacks m e i = e
 
-  pub directory-lacks : (m : ℕ) → notOfDirectory m ≡ true → lacks m (directoryCases d from limit) ≡ true
-  unfolding directoryCases
+  pub entries-positive : positive (itemByItem (entryCasesBy order d from limit) (entries d)) ≡ true
+  entries-positive = items-positive (entryCasesBy order d from limit) (entries d) entry-positive
+
+  pub directory-positive : positive (directoryCasesBy order d from limit) ≡ true
+  unfolding directoryCasesBy
+  directory-positive = positive-append (itemByItem (entryCasesBy order d from limit) (entries d)) _ entries-positive (rest-positive d from limit)
+
+  pub directory-lacks : (m : ℕ) → notOfDirectory m ≡ true → lacks m (directoryCasesBy order d from limit) ≡ true
+  unfolding directoryCasesBy
   directory-lacks m e =
       let h = both-true (notOfEntry m) (not (eqb 17 m) && true) e in
-      lacks-append m (itemByItem (entryCases d from limit) (entries d)) _
-      (items-lacks m (entryCases d from limit) (entries d) (entry-lacks m (h .0)))
-      (rest-lacks m (h .1))
+      lacks-append m (itemByItem (entryCasesBy order d from limit) (entries d)) _
+      (items-lacks m (entryCasesBy order d from limit) (entries d) (entry-lacks m (h .0)))
+      (rest-lacks d from limit m (h .1))

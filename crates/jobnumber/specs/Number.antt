@@ -1,10 +1,10 @@
 -- Job numbers (01, The dryer archive): eight ASCII digits, at the front of a list of bytes. A byte that is missing reads as 0.
 -- Assumes nothing.
-use mathlib.Core.Bool.{Bool, _&&_}
+use mathlib.Core.Bool.{Bool, cond, _&&_}
 use mathlib.Core.List.{List}
 use Prim.Native.Nat.{ℕ, zero, suc, _+_, _*_, _-_}
-use lib.Dec.{leb, eqb}
-use lib.ListN.{length, getD}
+use lib.Dec.{leb, ltb, eqb}
+use lib.ListN.{length, getD, drop}
 use Rattle.octets.specs.Below.{allBelow}
 
 -- an ASCII digit
@@ -28,6 +28,20 @@ decimalValue s (suc k) = decimalValue s k * 10 + (getD s k 0 - 48)
 abbrev pub jobNumber : List ℕ → ℕ
 jobNumber s = decimalValue s 8
 
--- the place of a job number in the order of the entries: "Job numbers strictly ascend as numbers"
+-- ---- the order of job numbers (02, e)
+
+-- the year that the first two digits are: "70 to 99 as 1970 to 1999 and 00 to 69 as 2000 to 2069"
+unfoldable pub centuryOf : List ℕ → ℕ
+centuryOf s = cond (ltb (decimalValue s 2) 70) 20 19
+
+abbrev pub yearOf : List ℕ → ℕ
+yearOf s = centuryOf s * 100 + decimalValue s 2
+
+-- the number that the other six digits are, the job's within its year
+unfoldable pub serialOf : List ℕ → ℕ
+serialOf s = decimalValue (drop 2 s) 6
+
+-- the place of a job number in the order of the entries: by year, and "within a year the other six digits ascend". Written in digits it is
+-- the four of the year and then the other six
 unfoldable pub orderOf : List ℕ → ℕ
-orderOf s = jobNumber s
+orderOf s = yearOf s * 1000000 + serialOf s

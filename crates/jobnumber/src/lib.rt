@@ -3,7 +3,7 @@ use octets::byte_at;
 ghost use mathlib.Core.Path.{_≡_};
 ghost use Prim.Native.Nat.{_-_, _<_};
 ghost use lib.ListN.{getD};
-ghost use Rattle.jobnumber.specs.Number.{isDigit, digits, isJobNumber, jobNumber, orderOf};
+ghost use Rattle.jobnumber.specs.Number.{isDigit, digits, isJobNumber, jobNumber, centuryOf, orderOf};
 
 fn is_digit(b: usize) -> bool
     ensures { λ r. ⌜ r ≡ isDigit b ⌝ }
@@ -46,9 +46,17 @@ fn digit_at(s: &[u8], at: usize) -> usize
     if b < 48 { 0 } else { b - 48 }
 }
 
+// The century that a job number's year is of.
+fn century_of(s: &[u8]) -> usize
+    ensures { λ r. ⌜ (r ≡ centuryOf (now (s .entry))) × (r < 100) ⌝ }
+{
+    let year = digit_at(s, 0) * 10 + digit_at(s, 1);
+    if year < 70 { 20 } else { 19 }
+}
+
 // The job number that the first eight bytes are.
 fn job_number(s: &[u8]) -> usize
-    ensures { λ r. ⌜ r ≡ jobNumber (now (s .entry)) ⌝ }
+    ensures { λ r. ⌜ (r ≡ jobNumber (now (s .entry))) × (r < 3000000000) ⌝ }
 {
     let a = digit_at(s, 0) * 10 + digit_at(s, 1);
     let b = digit_at(s, 2) * 10 + digit_at(s, 3);
@@ -57,9 +65,12 @@ fn job_number(s: &[u8]) -> usize
     ((a * 100 + b) * 100 + c) * 100 + d
 }
 
-// The place of a job number in the order of the entries.
+// The place of a job number in the order of the entries: by the year in four digits, then by the other six digits. So the century goes
+// before the eight.
 pub fn order_of(s: &[u8]) -> usize
     ensures { λ r. ⌜ r ≡ orderOf (now (s .entry)) ⌝ }
 {
-    job_number(s)
+    let century = century_of(s);
+    let number = job_number(s);
+    century * 100000000 + number
 }

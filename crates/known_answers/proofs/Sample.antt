@@ -19,10 +19,10 @@ use Rattle.ctr.specs.Counter.{counterBlock, keystream, addStream}
 use Rattle.header.specs.Fields.{countOf, archiveNumber, directoryOf}
 use Rattle.header.specs.Cases.{frontCases, fieldCases, headerCases}
 use Rattle.directory.specs.Entries.{entryAt}
-use Rattle.jobnumber.specs.Number.{digits, isJobNumber, orderOf}
-use Rattle.directory.specs.Check.{bodyFrom, ascends, entryCases, restCases, directoryCases}
+use Rattle.jobnumber.specs.Number.{digits, isJobNumber, centuryOf, serialOf, orderOf}
+use Rattle.directory.specs.Check.{bodyFrom, ascendsBy, entryCasesBy, restCases, directoryCasesBy}
 use Rattle.directory.specs.Search.{bears, above, endsAt, stopOf, indexOf, searchCases}
-use Rattle.archive.specs.Check.{keyCheck, fileCases, checkCases}
+use Rattle.archive.specs.Check.{keyCheck, fileCasesBy, checkCasesBy}
 use Rattle.archive.specs.Find.{bodyAt}
 use Rattle.archive.specs.Open.{prefixOf, underKeystream}
 use Rattle.listing.specs.Decimal.{digitsIn, decimalDigits}
@@ -38,7 +38,7 @@ unfolding every job24000017 rfcKey sampleFile sampleText samplePlain sampleReadi
     keyAt oddRound evenRound lastRound rounds circuit aria
     c1 c2 c3 constantsFor roundsFor keysFor wordsBy wordsOf four encryptionKeys keyBytes scheduleFor scheduleOf
     counterBlock keystream addStream countOf archiveNumber directoryOf frontCases fieldCases headerCases
-    entryAt digits isJobNumber orderOf bodyFrom ascends entryCases restCases directoryCases bears above endsAt stopOf indexOf searchCases
-    keyCheck fileCases checkCases bodyAt prefixOf underKeystream
+    entryAt digits isJobNumber centuryOf serialOf orderOf bodyFrom ascendsBy entryCasesBy restCases directoryCasesBy
+    bears above endsAt stopOf indexOf searchCases keyCheck fileCasesBy checkCasesBy bodyAt prefixOf underKeystream
     digitsIn decimalDigits field numberLine jobLine jobLines textOf
 sample-holds = refl

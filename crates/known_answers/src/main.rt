@@ -278,6 +278,18 @@ fn search_other_bytes() {
     print_search(b"2400001/", b"24000010........2400001/........");
 }
 
+// Jobs of both spans of years, the old before the new; and the new before the old, as no archive has them.
+fn search_years() {
+    let directory = b"97000004........05000001........";
+    print_search(b"97000004", directory);
+    print_search(b"05000001", directory);
+    print_search(b"70000000", directory);
+    print_search(b"69999999", directory);
+    let plain = b"05000001........97000004........";
+    print_search(b"97000004", plain);
+    print_search(b"05000001", plain);
+}
+
 // The plain block of RFC 5794, appendix A.
 fn rfc_block() -> [u8; 16] {
     [
@@ -327,6 +339,7 @@ fn main() {
     search_unordered();
     search_lengths();
     search_other_bytes();
+    search_years();
     print_run(b"plain, RFC 5794 A.1: ", Engine::Plain);
     print_run(b"tables, RFC 5794 A.1: ", Engine::Tables);
 }

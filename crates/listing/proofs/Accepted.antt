@@ -22,10 +22,10 @@ module _ (key file : List ℕ) (n : ℕ) (e : gives n ≡ checkOf key file) (d :
 
   pub given-printable : Printable d
   given-printable =
-      let header = accepted-header key file (told .0) in
-      let within = accepted-within key file (told .0) in
+      let header = accepted-header _ key file (told .0) in
+      let within = accepted-within _ key file (told .0) in
       subst Printable (sym ed) record {
-        few = omega (arith, accepted-entries key file (told .0));
+        few = omega (arith, accepted-entries _ key file (told .0));
         starts = λ i l. omega (arith, within i l);
         sizes = λ i l. omega (arith, within i l);
       }
@@ -33,7 +33,7 @@ module _ (key file : List ℕ) (n : ℕ) (e : gives n ≡ checkOf key file) (d :
   pub given-text : textOf (gives (entries d)) d ≡ listingText key file
   given-text =
       ap (λ (l : List ℕ). textOf (gives (entries l)) l) ed
-      ∙ ap (λ (m : ℕ). textOf (gives m) (directoryOf file)) (accepted-entries key file (told .0) ∙ told .1)
+      ∙ ap (λ (m : ℕ). textOf (gives m) (directoryOf file)) (accepted-entries _ key file (told .0) ∙ told .1)
       ∙ ap (λ (a : Answer). textOf a (directoryOf file)) e
 
 pub refused-text : (key file : List ℕ) (n : ℕ) → refused n ≡ checkOf key file → numberLine refusedWord n ≡ listingText key file

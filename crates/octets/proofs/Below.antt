@@ -1,10 +1,11 @@
 -- Laws of a test at the numbers below a bound: at all of them, and at the first where it holds.
 -- Assumes nothing.
-use mathlib.Core.Path.{_≡_, refl, ap}
+use mathlib.Core.Path.{_≡_, refl, sym, ap, _∙_}
 use mathlib.Core.Bool.{Bool, true, false, cond}
 use Prim.Native.Nat.{ℕ, zero, suc, _<_, _≤_}
 use native.Mathlib.Nat.{not-suc-le-zero}
 use native.Mathlib.Omega.{arith}
+use Rattle.refusals.proofs.Booleans.{true-false}
 use Rattle.octets.specs.Below.{firstIndex, allBelow}
 
 -- ---- at all
@@ -23,6 +24,13 @@ unfolding allBelow
 all-no p zero i l h = absurd (not-suc-le-zero l)
 all-no p (suc n) zero l h = rw h
 all-no p (suc n) (suc i) l h = rw (all-no (λ (k : ℕ). p (suc k)) n i (omega arith) h) (cond-no (p zero))
+
+pub all-each : (p : ℕ → Bool) (n : ℕ) → allBelow p n ≡ true → (i : ℕ) → i < n → p i ≡ true
+all-each p n h i l = go (p i) refl
+  where
+    go : (b : Bool) → p i ≡ b → p i ≡ true
+    go true e = e
+    go false e = absurd (true-false (sym h ∙ all-no p n i l e))
 
 -- ---- at the first
 

@@ -101,6 +101,17 @@ first-none (when t n ∷ a) b p e =
     let r = first-none a b (positive-tail t n a p) (h .1) in
     (rw (h .0) (r .0), r .1)
 
+-- groups with the same answers
+pub first-alike : (a b c d : List Case) → positive a ≡ true → positive b ≡ true → firstOf a ≡ firstOf b
+    → (firstOf a ≡ 0 → firstOf c ≡ firstOf d) → firstOf (a ++ c) ≡ firstOf (b ++ d)
+first-alike a b c d p q e h = go (firstOf a) refl
+  where
+    go : (n : ℕ) → firstOf a ≡ n → firstOf (a ++ c) ≡ firstOf (b ++ d)
+    go zero z = first-pass a c p z ∙ h z ∙ sym (first-pass b d q (sym e ∙ z))
+    go (suc n) z =
+        let some : firstOf a ≡ 0 → ⊥ = λ y. omega arith in
+        first-stop a c some ∙ e ∙ sym (first-stop b d (λ y. some (e ∙ y)))
+
 pub positive-append : (a b : List Case) → positive a ≡ true → positive b ≡ true → positive (a ++ b) ≡ true
 unfolding positive
 positive-append [] b p q = q
@@ -163,3 +174,18 @@ items-none f zero p e k l = absurd (not-suc-le-zero l)
 items-none f (suc n) p e zero l = first-none (f zero) _ (p zero) e .0
 items-none f (suc n) p e (suc k) l =
     items-none (λ (i : ℕ). f (suc i)) n (λ i. p (suc i)) (first-none (f zero) _ (p zero) e .1) k (omega arith)
+
+-- items with the same answers, as far as the first that has a case
+pub items-alike : (f g : ℕ → List Case) (n : ℕ) → ((k : ℕ) → positive (f k) ≡ true) → ((k : ℕ) → positive (g k) ≡ true)
+    → ((i : ℕ) → i < n → ((k : ℕ) → k < i → firstOf (f k) ≡ 0) → firstOf (f i) ≡ firstOf (g i))
+    → firstOf (itemByItem f n) ≡ firstOf (itemByItem g n)
+unfolding itemByItem
+items-alike f g zero p q h = refl
+items-alike f g (suc n) p q h =
+    first-alike (f zero) (g zero) _ _ (p zero) (q zero) (h zero (omega arith) (λ k l. absurd (not-suc-le-zero l)))
+    (λ e. items-alike (λ (i : ℕ). f (suc i)) (λ (i : ℕ). g (suc i)) n (λ i. p (suc i)) (λ i. q (suc i))
+    (λ i l past. h (suc i) (omega arith) (passed e i past)))
+  where
+    passed : firstOf (f zero) ≡ 0 → (i : ℕ) → ((k : ℕ) → k < i → firstOf (f (suc k)) ≡ 0) → (k : ℕ) → k < suc i → firstOf (f k) ≡ 0
+    passed e i past zero l = e
+    passed e i past (suc k) l = past k (omega arith)

@@ -30,7 +30,7 @@ returns-2 c =
     let none = sym (c .before .before .admit .ensures .number) ∙ c .before .if1 .left in
     record {
       bytes = c .directory .ensures .bytes ∙ part-gives _ _ _ (sym (answer-none _ _ none));
-      place = λ n g. c .directory .ensures .place (accepted-header _ _ none .long);
+      place = λ n g. c .directory .ensures .place (accepted-header _ _ _ none .long);
     }
 
 pub directory-spec : {M : Type 1} → statement M

@@ -4,7 +4,7 @@ use mathlib.Core.Path.{sym, _∙_}
 use borrow.Author.Needs.{needs}
 use Rattle.refusals.proofs.Cases.{first-stop, first-pass}
 use Rattle.header.proofs.Cases.{header-positive}
-use Rattle.archive.specs.Check.{fileCases}
+use Rattle.archive.specs.Check.{fileCasesBy}
 use Rattle.archive.proofs.file_refusal.Statement.{statement}
 use Rattle.archive.proofs.file_refusal.Tie as tie
 
@@ -15,7 +15,7 @@ refusal-requires : tie.Need-refusal-requires
 refusal-requires c κs = search needs
 
 returns : tie.Need-returns
-unfolding fileCases
+unfolding fileCasesBy
 returns c =
     let e = rw (c .before .before .key-check .ensures) at (c .before .refusal .ensures) in
     e ∙ sym (first-stop _ _ (λ q. c .if1 .taken (e ∙ q)))
@@ -30,7 +30,7 @@ refusal-requires-2 : tie.Need-refusal-requires-2
 refusal-requires-2 c κs = search needs
 
 returns-2 : tie.Need-returns-2
-unfolding fileCases
+unfolding fileCasesBy
 returns-2 c =
     let asked = c .before .before .before .before in
     let none = sym (rw (asked .before .key-check .ensures) at (asked .refusal .ensures)) ∙ c .before .before .before .if1 .left in

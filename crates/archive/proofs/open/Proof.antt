@@ -17,7 +17,7 @@ open-job-requires : tie.Need-open-job-requires
 open-job-requires c κs =
     let a = c .before .before .admit .ensures in
     let none = sym (a .number) ∙ c .before .if1 .left in
-    (rw (a .schedule) (accepted-rounds _ _ none), accepted-header _ _ none .long)
+    (rw (a .schedule) (accepted-rounds _ _ _ none), accepted-header _ _ _ none .long)
 
 same-length : tie.Need-same-length
 same-length c = search needs

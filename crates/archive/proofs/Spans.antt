@@ -1,0 +1,91 @@
+-- Archives of one span are judged as before, and those of both in plain order get 14: the cases of the directory are lifted to those of the
+-- archive.
+-- Assumes nothing.
+use mathlib.Core.Path.{_≡_, refl, sym, ap, _∙_}
+use mathlib.Core.Bool.{true}
+use mathlib.Core.List.{List}
+use Prim.Native.Nat.{ℕ}
+use native.Mathlib.Omega.{arith}
+use lib.ListN.{length}
+use Rattle.refusals.specs.Cases.{firstOf, positive}
+use Rattle.refusals.specs.Answers.{Answer, answer, partFor, writtenFor}
+use Rattle.refusals.specs.Shared.{keyCases}
+use Rattle.refusals.proofs.Answers.{answer-gives, refusal-is}
+use Rattle.refusals.proofs.Cases.{first-alike, positive-append}
+use Rattle.refusals.proofs.Shared.{key-positive}
+use Rattle.expansion.specs.KeySchedule.{scheduleOf}
+use Rattle.header.specs.Fields.{countOf, directoryEnd, directoryOf, bodiesEnd}
+use Rattle.header.specs.Cases.{headerCases}
+use Rattle.header.proofs.Cases.{header-positive}
+use Rattle.jobnumber.specs.Number.{jobNumber, orderOf}
+use Rattle.directory.specs.Entries.{entries}
+use Rattle.directory.specs.Check.{directoryCasesBy}
+use Rattle.directory.specs.EarlyEnd.{fullIndexOf, fullSearchCases}
+use Rattle.directory.proofs.Spans.{same-span, mixed-span}
+use Rattle.archive.specs.Check.{keyCheck, fileCasesBy, checkCases, checkCasesBy}
+use Rattle.archive.specs.EarlyEnd.{fullFindCases, fullBodyOf, fullOpenCases, fullPlainOf}
+use Rattle.archive.specs.Find.{bodyAt}
+use Rattle.archive.specs.Spans.{SameSpanArchives, MixedSpanArchives}
+use Rattle.archive.proofs.Accepted.{accepted-directory, accepted-directory-by, accepted-entries}
+use Rattle.archive.proofs.Checking.{check-positive}
+use Rattle.archive.proofs.EarlyEnd.{unchanged-archives}
+
+module _ (o p : List ℕ → ℕ) (key file : List ℕ) where
+  check-alike : firstOf (directoryCasesBy o (directoryOf file) (directoryEnd file) (bodiesEnd file))
+      ≡ firstOf (directoryCasesBy p (directoryOf file) (directoryEnd file) (bodiesEnd file))
+      → firstOf (checkCasesBy o key file) ≡ firstOf (checkCasesBy p key file)
+  unfolding checkCasesBy fileCasesBy
+  check-alike e =
+      let k = key-positive (length key) in
+      let h = header-positive (length key) (keyCheck (scheduleOf key)) file in
+      first-alike (keyCases (length key)) (keyCases (length key)) _ _ k k refl
+      (λ z. first-alike (headerCases (length key) (keyCheck (scheduleOf key)) file) _ _ _ h h refl (λ y. e))
+
+  module _ (number : List ℕ) (e : firstOf (checkCasesBy o key file) ≡ firstOf (checkCasesBy p key file)) where
+    find-alike : firstOf (fullFindCases o key file number) ≡ firstOf (fullFindCases p key file number)
+    unfolding fullFindCases
+    find-alike =
+        first-alike (checkCasesBy o key file) (checkCasesBy p key file) _ _ (check-positive o key file) (check-positive p key file) e
+        (λ z. refl)
+
+    find-positive : (order : List ℕ → ℕ) → positive (fullFindCases order key file number) ≡ true
+    unfolding fullFindCases fullSearchCases positive
+    find-positive order = positive-append (checkCasesBy order key file) _ (check-positive order key file) refl
+
+    open-alike : (room : ℕ) → firstOf (fullOpenCases o key file number room) ≡ firstOf (fullOpenCases p key file number room)
+    unfolding fullOpenCases
+    open-alike room =
+        first-alike (fullFindCases o key file number) (fullFindCases p key file number) _ _ (find-positive o) (find-positive p) find-alike
+        (λ z. refl)
+
+-- ---- one span
+
+pub same-span-archives : SameSpanArchives
+same-span-archives key file number before one =
+    let judged = check-alike orderOf jobNumber key file (same-span (directoryOf file) (directoryEnd file) (bodiesEnd file) one) in
+    let checked = ap (λ (n : ℕ). answer n (countOf file)) judged in
+    let full = unchanged-archives key file number before in
+    let found = ap (λ (n : ℕ). answer n (fullIndexOf (directoryOf file) number)) (find-alike orderOf jobNumber key file number judged) in
+    let opened = ap (λ (n : ℕ). answer n (length (fullBodyOf file number)))
+    (open-alike orderOf jobNumber key file number judged (length before)) in
+    record {
+      checking = checked;
+      directory = ap (λ (a : Answer). partFor a (λ (n : ℕ). directoryOf file)) checked;
+      jobs = record {
+        finding = full .finding ∙ found;
+        body = full .body ∙ ap (λ (a : Answer). partFor a (bodyAt file)) found;
+        opening = full .opening ∙ opened;
+        bytes = full .bytes ∙ ap (λ (a : Answer). writtenFor a (fullPlainOf (scheduleOf key) file number) before) opened;
+      };
+    }
+
+-- ---- both spans
+
+pub mixed-span-archives : MixedSpanArchives
+mixed-span-archives key file n e i j li lj low high =
+    let p = answer-gives (firstOf (checkCasesBy jobNumber key file)) (countOf file) n e in
+    let count : entries (directoryOf file) ≡ n = accepted-entries jobNumber key file (p .0) ∙ p .1 in
+    let mixed = mixed-span (directoryOf file) (directoryEnd file) (bodiesEnd file) (accepted-directory jobNumber key file (p .0))
+    i j (omega arith) (omega arith) low high in
+    let judged = accepted-directory-by jobNumber key file (p .0) orderOf ∙ mixed in
+    sym (refusal-is 14 (firstOf (checkCases key file)) (countOf file) (sym judged) (λ z. omega arith))

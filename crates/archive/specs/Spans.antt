@@ -1,0 +1,36 @@
+-- What the order of years changes on archives (02, e): "Archives whose job numbers all lie in the same span are judged as before; a mixed one
+-- in plain number order, accepted until now, gets 14." Before, case 14 went by the plain number, `jobNumber`, and the search was the full
+-- one, so that it had no order. The theorems are `same-span-archives` and `mixed-span-archives` of proofs/Spans.
+-- Assumes nothing.
+use mathlib.Core.Path.{_≡_}
+use mathlib.Core.List.{List}
+use Prim.Native.Nat.{ℕ, _<_, _≤_}
+use Rattle.refusals.specs.Cases.{firstOf}
+use Rattle.refusals.specs.Answers.{Answer, refused, gives, answer, partFor}
+use Rattle.header.specs.Fields.{countOf, directoryOf}
+use Rattle.jobnumber.specs.Number.{jobNumber}
+use Rattle.directory.specs.Entries.{entryAt}
+use Rattle.directory.specs.Spans.{OneSpan}
+use Rattle.archive.specs.Check.{checkCasesBy, checkOf, directoryGiven}
+use Rattle.archive.specs.EarlyEnd.{AsFull}
+
+-- what checking answered before
+abbrev pub plainCheckOf : List ℕ → List ℕ → Answer
+plainCheckOf key file = answer (firstOf (checkCasesBy jobNumber key file)) (countOf file)
+
+-- every call on an archive comes to what it came to before
+pub record AsBefore (key file number before : List ℕ) : Type 0 where
+  pub checking : checkOf key file ≡ plainCheckOf key file
+  pub directory : directoryGiven key file ≡ partFor (plainCheckOf key file) (λ (n : ℕ). directoryOf file)
+  pub jobs : AsFull jobNumber key file number before
+
+-- the job numbers of the file all lie in the same span
+abbrev pub SameSpanArchives : Type 0
+SameSpanArchives = (key file number before : List ℕ) → OneSpan (directoryOf file) → AsBefore key file number before
+
+-- one that was accepted, with a job number i of 2000 to 2069 and a job number j of 1970 to 1999
+abbrev pub MixedSpanArchives : Type 0
+MixedSpanArchives = (key file : List ℕ) (n : ℕ) → plainCheckOf key file ≡ gives n
+    → (i j : ℕ) → i < n → j < n
+    → jobNumber (entryAt (directoryOf file) i) < 70000000 → 70000000 ≤ jobNumber (entryAt (directoryOf file) j)
+    → checkOf key file ≡ refused 14
