@@ -24,6 +24,15 @@ value-take e n zero l = refl
 value-take e n (suc k) l =
     ap₂ (λ (a b : ℕ). a * 10 + (b - 48)) (value-take e n k (omega arith)) (getD-take n e k 0 l)
 
+-- eight digits by pairs
+pub pairs : (s : List ℕ) (a b c d : ℕ) → a ≡ (getD s 0 0 - 48) * 10 + (getD s 1 0 - 48) → b ≡ (getD s 2 0 - 48) * 10 + (getD s 3 0 - 48)
+    → c ≡ (getD s 4 0 - 48) * 10 + (getD s 5 0 - 48) → d ≡ (getD s 6 0 - 48) * 10 + (getD s 7 0 - 48)
+    → ((a * 100 + b) * 100 + c) * 100 + d ≡ jobNumber s
+pairs s a b c d ea eb ec ed = omega arith
+
+pub pairs-most : (a b c d : ℕ) → a < 3000 → b < 3000 → c < 3000 → d < 3000 → ((a * 100 + b) * 100 + c) * 100 + d < 4000000000
+pairs-most a b c d la lb lc ld = omega arith
+
 -- the digits behind the first n, one more
 value-drop : (s : List ℕ) (n k : ℕ) → decimalValue (drop n s) (suc k) ≡ decimalValue (drop n s) k * 10 + (getD s (n + k) 0 - 48)
 value-drop s n k = ap (λ (b : ℕ). decimalValue (drop n s) k * 10 + (b - 48)) (getD-drop n s k 0)

@@ -1,7 +1,7 @@
 // Job numbers, at the front of a slice of bytes: whether they are digits, and their order. Every call is total.
 use octets::byte_at;
 ghost use mathlib.Core.Path.{_≡_};
-ghost use Prim.Native.Nat.{_-_, _<_};
+ghost use Prim.Native.Nat.{_+_, _*_, _-_, _<_};
 ghost use lib.ListN.{getD};
 ghost use Rattle.jobnumber.specs.Number.{isDigit, digits, isJobNumber, jobNumber, centuryOf, orderOf};
 
@@ -46,22 +46,29 @@ fn digit_at(s: &[u8], at: usize) -> usize
     if b < 48 { 0 } else { b - 48 }
 }
 
+// The number that the digits at two places are.
+fn pair(s: &[u8], tens: usize, ones: usize) -> usize
+    ensures { λ r. ⌜ (r ≡ (getD (now (s .entry)) tens 0 - 48) * 10 + (getD (now (s .entry)) ones 0 - 48)) × (r < 3000) ⌝ }
+{
+    digit_at(s, tens) * 10 + digit_at(s, ones)
+}
+
 // The century that a job number's year is of.
 fn century_of(s: &[u8]) -> usize
     ensures { λ r. ⌜ (r ≡ centuryOf (now (s .entry))) × (r < 100) ⌝ }
 {
-    let year = digit_at(s, 0) * 10 + digit_at(s, 1);
+    let year = pair(s, 0, 1);
     if year < 70 { 20 } else { 19 }
 }
 
 // The job number that the first eight bytes are.
 fn job_number(s: &[u8]) -> usize
-    ensures { λ r. ⌜ (r ≡ jobNumber (now (s .entry))) × (r < 3000000000) ⌝ }
+    ensures { λ r. ⌜ (r ≡ jobNumber (now (s .entry))) × (r < 4000000000) ⌝ }
 {
-    let a = digit_at(s, 0) * 10 + digit_at(s, 1);
-    let b = digit_at(s, 2) * 10 + digit_at(s, 3);
-    let c = digit_at(s, 4) * 10 + digit_at(s, 5);
-    let d = digit_at(s, 6) * 10 + digit_at(s, 7);
+    let a = pair(s, 0, 1);
+    let b = pair(s, 2, 3);
+    let c = pair(s, 4, 5);
+    let d = pair(s, 6, 7);
     ((a * 100 + b) * 100 + c) * 100 + d
 }
 
