@@ -34,7 +34,7 @@ fileCasesBy order s keysize file =
 unfoldable pub checkCasesBy : (List ℕ → ℕ) → List ℕ → List ℕ → List Case
 checkCasesBy order key file = keyCases (length key) ++ fileCasesBy order (scheduleOf key) (length key) file
 
--- by the order of job numbers
+-- by the order of years
 abbrev pub fileCases : Schedule → ℕ → List ℕ → List Case
 fileCases s keysize file = fileCasesBy orderOf s keysize file
 

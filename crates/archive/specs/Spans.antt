@@ -1,6 +1,6 @@
--- What the order of years changes on archives (02, e): "Archives whose job numbers all lie in the same span are judged as before; a mixed one
--- in plain number order, accepted until now, gets 14." Before, case 14 went by the plain number, `jobNumber`, and the search was the full
--- one, so that it had no order. The theorems are `same-span-archives` and `mixed-span-archives` of proofs/Spans.
+-- What the order of years changes on archives (02, e): "Archives whose job numbers all lie in the same span are judged as before; a mixed
+-- one in plain number order, accepted until now, gets 14." Before, case 14 went by the plain number, `jobNumber`; the search is compared
+-- with the full one, which knows no order. The theorems are `same-span-archives` and `mixed-span-archives` of proofs/Spans.
 -- Assumes nothing.
 use mathlib.Core.Path.{_≡_}
 use mathlib.Core.List.{List}

@@ -58,7 +58,8 @@ module _ (order : List ℕ → ℕ) (d : List ℕ) (from limit : ℕ) where
 
   pub directory-positive : positive (directoryCasesBy order d from limit) ≡ true
   unfolding directoryCasesBy
-  directory-positive = positive-append (itemByItem (entryCasesBy order d from limit) (entries d)) _ entries-positive (rest-positive d from limit)
+  directory-positive =
+      positive-append (itemByItem (entryCasesBy order d from limit) (entries d)) _ entries-positive (rest-positive d from limit)
 
   pub directory-lacks : (m : ℕ) → notOfDirectory m ≡ true → lacks m (directoryCasesBy order d from limit) ≡ true
   unfolding directoryCasesBy

@@ -1,5 +1,4 @@
--- The order of job numbers looks at their eight bytes only; on digits it is by year, and its places are those of the plain numbers, moved by
--- the century.
+-- The order of job numbers looks at their eight bytes only; on digits it is by year, and within a span of years that of the plain numbers.
 -- Assumes nothing.
 use mathlib.Core.Path.{_≡_, refl, sym, ap, ap₂, _∙_}
 use mathlib.Core.Bool.{Bool, true, false, cond, _||_, _&&_}
@@ -42,7 +41,7 @@ split : (s : List ℕ) → jobNumber s ≡ decimalValue s 2 * 1000000 + serialOf
 unfolding serialOf
 split s = omega (arith, value-drop s 2 0, value-drop s 2 1, value-drop s 2 2, value-drop s 2 3, value-drop s 2 4, value-drop s 2 5)
 
--- the year in four digits and then the other six are the century and then all eight
+-- the year's four digits and then the other six are the year's first two and then all eight
 pub order-century : (s : List ℕ) → orderOf s ≡ centuryOf s * 100000000 + jobNumber s
 unfolding orderOf
 order-century s = omega (arith, split s)

@@ -1,4 +1,5 @@
--- Job numbers (01, The dryer archive): eight ASCII digits, at the front of a list of bytes. A byte that is missing reads as 0.
+-- Job numbers (01, The dryer archive): eight ASCII digits, at the front of a list of bytes, and their order (02, e). A byte that is missing
+-- reads as 0.
 -- Assumes nothing.
 use mathlib.Core.Bool.{Bool, cond, _&&_}
 use mathlib.Core.List.{List}
@@ -30,7 +31,7 @@ jobNumber s = decimalValue s 8
 
 -- ---- the order of job numbers (02, e)
 
--- the year that the first two digits are: "70 to 99 as 1970 to 1999 and 00 to 69 as 2000 to 2069"
+-- the year that the first two digits are: "70 to 99 as 1970 to 1999 and 00 to 69 as 2000 to 2069". 19 or 20, then those two
 unfoldable pub centuryOf : List ℕ → ℕ
 centuryOf s = cond (ltb (decimalValue s 2) 70) 20 19
 

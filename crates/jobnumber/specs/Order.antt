@@ -13,8 +13,8 @@ abbrev pub ByYear : Type 0
 ByYear = (s t : List ℕ) → digits s ≡ true → digits t ≡ true
     → ltb (orderOf s) (orderOf t) ≡ (ltb (yearOf s) (yearOf t) || (eqb (yearOf s) (yearOf t) && ltb (serialOf s) (serialOf t)))
 
--- the two spans of years, as plain numbers: 70000000 and above are of 1970 to 1999, those below are of 2000 to 2069. Within a span the order
--- is that of the plain numbers, moved by the span's century
+-- the two spans of years, as plain numbers: 70000000 and above are of 1970 to 1999, those below are of 2000 to 2069. Within a span the
+-- order is that of the plain numbers
 pub record Spanned (s : List ℕ) : Type 0 where
   pub old : 70000000 ≤ jobNumber s → (1970 ≤ yearOf s) × (yearOf s ≤ 1999) × (orderOf s ≡ 1900000000 + jobNumber s)
   pub recent : jobNumber s < 70000000 → (2000 ≤ yearOf s) × (yearOf s ≤ 2069) × (orderOf s ≡ 2000000000 + jobNumber s)

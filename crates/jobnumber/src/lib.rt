@@ -53,7 +53,7 @@ fn pair(s: &[u8], tens: usize, ones: usize) -> usize
     digit_at(s, tens) * 10 + digit_at(s, ones)
 }
 
-// The century that a job number's year is of.
+// The first two of the four digits of a job number's year.
 fn century_of(s: &[u8]) -> usize
     ensures { λ r. ⌜ (r ≡ centuryOf (now (s .entry))) × (r < 100) ⌝ }
 {
@@ -72,8 +72,8 @@ fn job_number(s: &[u8]) -> usize
     ((a * 100 + b) * 100 + c) * 100 + d
 }
 
-// The place of a job number in the order of the entries: by the year in four digits, then by the other six digits. So the century goes
-// before the eight.
+// The place of a job number in the order of the entries: by its year, then by its other six digits. The year's first two digits go before
+// the eight.
 pub fn order_of(s: &[u8]) -> usize
     ensures { λ r. ⌜ r ≡ orderOf (now (s .entry)) ⌝ }
 {
