@@ -45,7 +45,8 @@ def entry_at(file, index):
 def place(number):
     """A job number's place in the order of the contents: its year, 1970 to 2069, then the other six digits.
 
-    In other bytes than eight digits a byte below the digit 0, or one that is missing, counts as 0.
+    The documents speak of digits alone. In other bytes, by a rule of this project's own (docs/DECISIONS.md, 42), a byte
+    below the digit 0, or one that is missing, counts as 0.
     """
     values = [max(byte - 0x30, 0) for byte in number[:8].ljust(8, b"0")]
     year = 10 * values[0] + values[1]

@@ -337,19 +337,6 @@ def years():
     yield Draft(KEYS[32], 7, jobs(new + old[:1])).case("32 new jobs, then an old one", 14)
     yield Draft(KEYS[32], 7, jobs(old + new[:1] + old[:1])).case("32 old jobs, a new one, then an old one", 14)
 
-    # beside another fault of the same entry, and of the file
-    for second, number in ((b"97000004", 14), (b"24000004", 0)):
-        for fault in (13, 15, 16):
-            draft = Draft(KEYS[16], 7, [(b"05000001", b"first"), (second, b"second")])
-            ENTRY_FAULTS[fault](draft, 1)
-            first = min(number, fault) if number else fault
-            yield draft.case("05000001 then %s with fault %d" % (second.decode(), fault), first)
-        for fault in WHOLE_FAULTS:
-            draft = Draft(KEYS[16], 7, [(b"05000001", b"first"), (second, b"second")])
-            WHOLE_FAULTS[fault](draft)
-            first = min(number, fault) if number else fault
-            yield draft.case("05000001 then %s with fault %d" % (second.decode(), fault), first)
-
 
 # ---- faults that can be put into one draft together
 
@@ -414,8 +401,7 @@ def _no_digit(draft, index):
 
 
 def _not_above(draft, index):
-    number = draft.entries[index][0]
-    draft.entries[index][0] = b"1" + number[1:]
+    draft.entries[index][0] = b"70000000"  # the lowest of all
 
 
 def _start(draft, index):
@@ -427,6 +413,36 @@ def _length(draft, index):
 
 
 ENTRY_FAULTS = {13: _no_digit, 14: _not_above, 15: _start, 16: _length}
+
+
+def faulty(jobs):
+    """Archives of the jobs with one fault each: its number, the entry that has it or None for the whole file, and the draft."""
+    for fault, put in WHOLE_FAULTS.items():
+        draft = Draft(KEYS[16], 7, jobs)
+        put(draft)
+        yield fault, None, draft
+    for fault, put in ENTRY_FAULTS.items():
+        for index in range(len(jobs)):
+            if (fault, index) != (14, 0):  # entry 0 has none before it
+                draft = Draft(KEYS[16], 7, jobs)
+                put(draft, index)
+                yield fault, index, draft
+
+
+def years_and_faults():
+    """14 by the order of years beside another fault, and faults beside jobs of both spans that are in order."""
+    for numbers, refusal in (
+        ([5000001, 97000004], 14),
+        ([97000004, 5000001], 0),
+        ([97000017, 97000018, 97000019], 0),
+        ([99999998, 99999999, 0], 0),
+    ):
+        jobs = [(digits(number), text(3 + i)) for i, number in enumerate(numbers)]
+        for fault, index, draft in faulty(jobs):
+            # the one 14 is in entry 1, and entry 0 is judged before it
+            met = fault if index == 0 or not refusal else min(refusal, fault)
+            where = "" if index is None else " in entry %d" % index
+            yield draft.case("%s, fault %d%s" % (b" ".join(n for n, _ in jobs).decode(), fault, where), met)
 
 
 def pairs():
@@ -444,7 +460,7 @@ def pairs():
         for fault in ENTRY_FAULTS:
             for index in range(3):
                 if (fault, index) == (14, 0):
-                    continue  # entry 0 has none before it
+                    continue
                 draft = three_jobs()
                 ENTRY_FAULTS[fault](draft, index)
                 WHOLE_FAULTS[number](draft)
@@ -525,5 +541,5 @@ def random_changes(seed, count):
 
 def made():
     """Every case that was made for a known answer."""
-    for group in (good, key_lengths, file_lengths, plates, no_jobs, entries, years, pairs, pile):
+    for group in (good, key_lengths, file_lengths, plates, no_jobs, entries, years, years_and_faults, pairs, pile):
         yield from group()

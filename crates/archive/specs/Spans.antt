@@ -1,6 +1,7 @@
 -- What the order of years changes on archives (02, e): "Archives whose job numbers all lie in the same span are judged as before; a mixed
--- one in plain number order, accepted until now, gets 14." Before, case 14 went by the plain number, `jobNumber`; the search is compared
--- with the full one, which knows no order. The theorems are `same-span-archives` and `mixed-span-archives` of proofs/Spans.
+-- one in plain number order, accepted until now, gets 14." Before, case 14 went by the plain number, `jobNumber`. The search is compared
+-- with the full one, which knows no order, and to which the search of before came by b's theorem of then (docs/DECISIONS.md, 45). The
+-- theorems are `same-span-archives` and `mixed-span-archives` of proofs/Spans.
 -- Assumes nothing.
 use mathlib.Core.Path.{_≡_}
 use mathlib.Core.List.{List}
@@ -18,17 +19,18 @@ use Rattle.archive.specs.EarlyEnd.{AsFull}
 abbrev pub plainCheckOf : List ℕ → List ℕ → Answer
 plainCheckOf key file = answer (firstOf (checkCasesBy jobNumber key file)) (countOf file)
 
--- every call on an archive comes to what it came to before
-pub record AsBefore (key file number before : List ℕ) : Type 0 where
+-- every call of this crate comes to what it came to under the order of before; `room` is what the buffer for opening held. The places of
+-- the parts, and the listing, follow from what is answered
+pub record AsBefore (key file number room : List ℕ) : Type 0 where
   pub checking : checkOf key file ≡ plainCheckOf key file
   pub directory : directoryGiven key file ≡ partFor (plainCheckOf key file) (λ (n : ℕ). directoryOf file)
-  pub jobs : AsFull jobNumber key file number before
+  pub jobs : AsFull jobNumber key file number room
 
 -- the job numbers of the file all lie in the same span
 abbrev pub SameSpanArchives : Type 0
-SameSpanArchives = (key file number before : List ℕ) → OneSpan (directoryOf file) → AsBefore key file number before
+SameSpanArchives = (key file number room : List ℕ) → OneSpan (directoryOf file) → AsBefore key file number room
 
--- one that was accepted, with a job number i of 2000 to 2069 and a job number j of 1970 to 1999
+-- one that was accepted, with entry i of 2000 to 2069 and entry j of 1970 to 1999
 abbrev pub MixedSpanArchives : Type 0
 MixedSpanArchives = (key file : List ℕ) (n : ℕ) → plainCheckOf key file ≡ gives n
     → (i j : ℕ) → i < n → j < n

@@ -1,4 +1,5 @@
--- Theorems beside the contracts, as statements; their proofs are `sound-archives` and `opening-xors` of proofs/Theorems.
+-- Theorems beside the contracts, as statements; their proofs are `sound-archives`, `accepted-archives` and `opening-xors` of
+-- proofs/Theorems.
 -- Assumes nothing.
 use mathlib.Core.Path.{_≡_}
 use mathlib.Core.List.{List, _++_}
@@ -6,13 +7,17 @@ use Prim.Native.Nat.{ℕ, _<_}
 use lib.ListN.{length, getD, take}
 use Rattle.blocks.specs.Blocks.{row}
 use Rattle.blocks.specs.Xor.{_⊕_}
+use Rattle.refusals.specs.Cases.{firstOf}
 use Rattle.refusals.specs.Answers.{gives}
+use Rattle.refusals.specs.Shared.{keyCases}
 use Rattle.circuit.specs.declared.Schedule.{Schedule}
+use Rattle.expansion.specs.KeySchedule.{scheduleOf}
 use Rattle.ctr.specs.Counter.{keystream}
-use Rattle.header.specs.Fields.{directoryEnd, directoryOf, bodiesEnd}
+use Rattle.header.specs.Fields.{countOf, directoryEnd, directoryOf, bodiesEnd}
+use Rattle.header.specs.Cases.{headerCases}
 use Rattle.directory.specs.Entries.{entries}
 use Rattle.directory.specs.Sound.{Sound}
-use Rattle.archive.specs.Check.{checkOf}
+use Rattle.archive.specs.Check.{keyCheck, checkOf}
 use Rattle.archive.specs.Find.{bodyAt}
 use Rattle.archive.specs.Open.{prefixOf, underKeystream}
 
@@ -29,6 +34,12 @@ pub record SoundArchive (file : List ℕ) (n : ℕ) : Type 0 where
 
 abbrev pub SoundArchives : Type 0
 SoundArchives = (key file : List ℕ) (n : ℕ) → checkOf key file ≡ gives n → SoundArchive file n
+
+-- and nothing more is asked for: with a good key, a header without a case and a sound directory a file is accepted
+abbrev pub AcceptedArchives : Type 0
+AcceptedArchives = (key file : List ℕ) → firstOf (keyCases (length key)) ≡ 0
+    → firstOf (headerCases (length key) (keyCheck (scheduleOf key)) file) ≡ 0
+    → Sound (directoryOf file) (directoryEnd file) (bodiesEnd file) → checkOf key file ≡ gives (countOf file)
 
 -- opening is exclusive-or with the keystream, so that doing it again gives the bytes again; there are as many plain bytes as sealed ones
 pub record OpeningXor (s : Schedule) (archive number bytes : List ℕ) : Type 0 where

@@ -13,7 +13,7 @@ use Rattle.jobnumber.specs.Number.{digits, jobNumber}
 use Rattle.directory.specs.Entries.{entries, entryAt}
 use Rattle.directory.specs.Check.{directoryCases, directoryCasesBy}
 
--- the job numbers of a directory all lie in the same span. An entry that has no digits has no job number, and may be any
+-- the job numbers of a directory all lie in the same span. An entry without eight digits has no job number
 abbrev pub OneSpan : List ℕ → Type 0
 OneSpan d = ((i : ℕ) → i < entries d → digits (entryAt d i) ≡ true → jobNumber (entryAt d i) < 70000000)
     ⊎ ((i : ℕ) → i < entries d → digits (entryAt d i) ≡ true → 70000000 ≤ jobNumber (entryAt d i))
@@ -23,7 +23,7 @@ abbrev pub SameSpan : Type 0
 SameSpan = (d : List ℕ) (from limit : ℕ) → OneSpan d
     → firstOf (directoryCases d from limit) ≡ firstOf (directoryCasesBy jobNumber d from limit)
 
--- one that was accepted, with a job number i of 2000 to 2069 and a job number j of 1970 to 1999
+-- one that was accepted, with entry i of 2000 to 2069 and entry j of 1970 to 1999
 abbrev pub MixedSpan : Type 0
 MixedSpan = (d : List ℕ) (from limit : ℕ) → firstOf (directoryCasesBy jobNumber d from limit) ≡ 0
     → (i j : ℕ) → i < entries d → j < entries d → jobNumber (entryAt d i) < 70000000 → 70000000 ≤ jobNumber (entryAt d j)

@@ -31,10 +31,11 @@ jobNumber s = decimalValue s 8
 
 -- ---- the order of job numbers (02, e)
 
--- the year that the first two digits are: "70 to 99 as 1970 to 1999 and 00 to 69 as 2000 to 2069". 19 or 20, then those two
+-- the first two of the four digits of the year
 unfoldable pub centuryOf : List ℕ → ℕ
 centuryOf s = cond (ltb (decimalValue s 2) 70) 20 19
 
+-- the year that the first two digits are: "70 to 99 as 1970 to 1999 and 00 to 69 as 2000 to 2069"
 abbrev pub yearOf : List ℕ → ℕ
 yearOf s = centuryOf s * 100 + decimalValue s 2
 

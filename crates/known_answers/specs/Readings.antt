@@ -1,11 +1,11 @@
--- The readings of 01, Plate readings, that are marked P, which means to be proved: tests of the very definitions that the contracts cite,
--- in one list.
+-- The readings of 01, Plate readings, that are marked P, which means to be proved, and those of the order that 02, e, asks for: tests of
+-- the very definitions that the contracts cite, in one list.
 -- Blocks are compared whole. `every readings` is the one theorem of proofs/Readings.
 -- Assumes nothing.
 use mathlib.Core.Bool.{Bool, true, false, cond, _&&_, _||_}
 use mathlib.Core.List.{List, [], _∷_, _++_}
 use Prim.Native.Nat.{ℕ}
-use lib.Dec.{eqb}
+use lib.Dec.{ltb, eqb}
 use lib.ListN.{replicate}
 use Rattle.refusals.specs.Cases.{firstOf}
 use Rattle.refusals.specs.Shared.{keyCases}
@@ -18,6 +18,7 @@ use Rattle.circuit.specs.Run.{runNumber}
 use Rattle.keyed.specs.KeyRun.{keyRunNumber}
 use Rattle.ctr.specs.Counter.{counterBlock}
 use Rattle.header.specs.Fields.{archiveNumber}
+use Rattle.jobnumber.specs.Number.{orderOf}
 use Rattle.archive.specs.Open.{prefixOf}
 
 -- every test of a list passes
@@ -112,10 +113,29 @@ keyReadings =
     ∷ eqb (keyRunNumber 17 0 16) 1
     ∷ []
 
+-- "97000004 must stand before 05000001"
+unfoldable pub job97000004 : List ℕ
+job97000004 = 0x39 ∷ 0x37 ∷ 0x30 ∷ 0x30 ∷ 0x30 ∷ 0x30 ∷ 0x30 ∷ 0x34 ∷ []
+
+unfoldable pub job05000001 : List ℕ
+job05000001 = 0x30 ∷ 0x35 ∷ 0x30 ∷ 0x30 ∷ 0x30 ∷ 0x30 ∷ 0x30 ∷ 0x31 ∷ []
+
+-- and "70 to 99 as 1970 to 1999 and 00 to 69 as 2000 to 2069", at the first and the last job number of each span
+unfoldable pub orderReadings : List Bool
+orderReadings =
+    ltb (orderOf job97000004) (orderOf job05000001)
+    ∷ eqb (orderOf job97000004) 1997000004
+    ∷ eqb (orderOf job05000001) 2005000001
+    ∷ eqb (orderOf (0x37 ∷ replicate 7 0x30)) 1970000000
+    ∷ eqb (orderOf (replicate 8 0x39)) 1999999999
+    ∷ eqb (orderOf (replicate 8 0x30)) 2000000000
+    ∷ eqb (orderOf (0x36 ∷ replicate 7 0x39)) 2069999999
+    ∷ []
+
 -- all of them; the longest group last, so that a refused computation shows which value it came to
 unfoldable pub readings : List Bool
 readings =
     boxReadings
     ++ (diffusionReadings
     ++ (rotationReadings
-    ++ (counterReadings ++ (runReadings ++ (keyRunReadings ++ (keyReadings ++ equalBytesReadings))))))
+    ++ (counterReadings ++ (runReadings ++ (keyRunReadings ++ (keyReadings ++ (orderReadings ++ equalBytesReadings)))))))
