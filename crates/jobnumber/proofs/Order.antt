@@ -46,13 +46,17 @@ pub order-century : (s : List ℕ) → orderOf s ≡ centuryOf s * 100000000 + j
 unfolding orderOf
 order-century s = omega (arith, split s)
 
-pub order-front : (s : List ℕ) → orderOf (take 8 s) ≡ orderOf s
+century-front : (s : List ℕ) → centuryOf (take 8 s) ≡ centuryOf s
 unfolding centuryOf
+century-front s =
+    let two : 2 ≤ 8 = omega arith in
+    rw (value-take s 8 2 two)
+
+pub order-front : (s : List ℕ) → orderOf (take 8 s) ≡ orderOf s
 order-front s =
     let eight : 8 ≤ 8 = omega arith in
-    let two : 2 ≤ 8 = omega arith in
     order-century (take 8 s)
-    ∙ ap₂ (λ (y n : ℕ). cond (ltb y 70) 20 19 * 100000000 + n) (value-take s 8 2 two) (value-take s 8 8 eight)
+    ∙ ap₂ (λ (c n : ℕ). c * 100000000 + n) (century-front s) (value-take s 8 8 eight)
     ∙ sym (order-century s)
 
 pub same-order : (a b : List ℕ) → take 8 a ≡ take 8 b → orderOf a ≡ orderOf b
@@ -60,11 +64,11 @@ same-order a b e = sym (order-front a) ∙ ap orderOf e ∙ order-front b
 
 pub century-old : (s : List ℕ) → 70 ≤ decimalValue s 2 → centuryOf s ≡ 19
 unfolding centuryOf
-century-old s l = rw (le-ltb (decimalValue s 2) 70 l)
+century-old s l = ap (λ (b : Bool). cond b 20 19) (le-ltb (decimalValue s 2) _ (omega arith))
 
 pub century-recent : (s : List ℕ) → decimalValue s 2 < 70 → centuryOf s ≡ 20
 unfolding centuryOf
-century-recent s l = rw (lt-ltb (decimalValue s 2) 70 l)
+century-recent s l = ap (λ (b : Bool). cond b 20 19) (lt-ltb (decimalValue s 2) _ (omega arith))
 
 -- ---- eight digits
 
