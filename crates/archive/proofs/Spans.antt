@@ -18,7 +18,6 @@ use Rattle.header.specs.Fields.{countOf, directoryEnd, directoryOf, bodiesEnd}
 use Rattle.header.specs.Cases.{headerCases}
 use Rattle.header.proofs.Cases.{header-positive}
 use Rattle.jobnumber.specs.Number.{jobNumber, orderOf}
-use Rattle.directory.specs.Entries.{entries}
 use Rattle.directory.specs.Check.{directoryCasesBy}
 use Rattle.directory.specs.EarlyEnd.{fullIndexOf, fullSearchCases}
 use Rattle.directory.proofs.Spans.{same-span, mixed-span}
@@ -26,7 +25,7 @@ use Rattle.archive.specs.Check.{keyCheck, fileCasesBy, checkCases, check
 use Rattle.archive.specs.EarlyEnd.{fullFindCases, fullBodyOf, fullOpenCases, fullPlainOf}
 use Rattle.archive.specs.Find.{bodyAt}
 use Rattle.archive.specs.Spans.{SameSpanArchives, MixedSpanArchives}
-use Rattle.archive.proofs.Accepted.{accepted-directory, accepted-directory-by, accepted-entries}
+use Rattle.archive.proofs.Accepted.{accepted-directory, accepted-directory-by}
 use Rattle.archive.proofs.Checking.{check-positive}
 use Rattle.archive.proofs.EarlyEnd.{unchanged-archives}
 
@@ -82,10 +81,8 @@ same-span-archives key file number before one =
 -- ---- both spans
 
 pub mixed-span-archives : MixedSpanArchives
-mixed-span-archives key file n e i j li lj low high =
+mixed-span-archives key file n e both =
     let p = answer-gives (firstOf (checkCasesBy jobNumber key file)) (countOf file) n e in
-    let count : entries (directoryOf file) ≡ n = accepted-entries jobNumber key file (p .0) ∙ p .1 in
-    let mixed = mixed-span (directoryOf file) (directoryEnd file) (bodiesEnd file) (accepted-directory jobNumber key file (p .0))
-    i j (omega arith) (omega arith) low high in
+    let mixed = mixed-span (directoryOf file) (directoryEnd file) (bodiesEnd file) (accepted-directory jobNumber key file (p .0)) both in
     let judged = accepted-directory-by jobNumber key file (p .0) orderOf ∙ mixed in
     sym (refusal-is 14 (firstOf (checkCases key file)) (countOf file) (sym judged) (λ z. omega arith))

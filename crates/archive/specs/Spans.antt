@@ -5,13 +5,12 @@
 -- Assumes nothing.
 use mathlib.Core.Path.{_≡_}
 use mathlib.Core.List.{List}
-use Prim.Native.Nat.{ℕ, _<_, _≤_}
+use Prim.Native.Nat.{ℕ}
 use Rattle.refusals.specs.Cases.{firstOf}
 use Rattle.refusals.specs.Answers.{Answer, refused, gives, answer, partFor}
 use Rattle.header.specs.Fields.{countOf, directoryOf}
 use Rattle.jobnumber.specs.Number.{jobNumber}
-use Rattle.directory.specs.Entries.{entryAt}
-use Rattle.directory.specs.Spans.{OneSpan}
+use Rattle.directory.specs.Spans.{OneSpan, BothSpans}
 use Rattle.archive.specs.Check.{checkCasesBy, checkOf, directoryGiven}
 use Rattle.archive.specs.EarlyEnd.{AsFull}
 
@@ -30,9 +29,7 @@ pub record AsBefore (key file number room : List ℕ) : Type 0 where
 abbrev pub SameSpanArchives : Type 0
 SameSpanArchives = (key file number room : List ℕ) → OneSpan (directoryOf file) → AsBefore key file number room
 
--- one that was accepted, with entry i of 2000 to 2069 and entry j of 1970 to 1999
+-- those of one that was accepted lie in both spans
 abbrev pub MixedSpanArchives : Type 0
-MixedSpanArchives = (key file : List ℕ) (n : ℕ) → plainCheckOf key file ≡ gives n
-    → (i j : ℕ) → i < n → j < n
-    → jobNumber (entryAt (directoryOf file) i) < 70000000 → 70000000 ≤ jobNumber (entryAt (directoryOf file) j)
+MixedSpanArchives = (key file : List ℕ) (n : ℕ) → plainCheckOf key file ≡ gives n → BothSpans (directoryOf file)
     → checkOf key file ≡ refused 14

@@ -140,11 +140,11 @@ module _ (d : List ℕ) (from limit : ℕ) (e : firstOf (directoryCasesBy jobNum
             directory-14 jobNumber orderOf d from limit m lm e agree (omega (arith, falls))
 
 pub mixed-span : MixedSpan
-mixed-span d from limit e i j li lj low high =
+mixed-span d from limit e both =
     let test : ℕ → Bool = λ n. leb 70000000 (jobNumber (entryAt d n)) in
     let k : ℕ = firstIndex test (entries d) in
-    let most : k ≤ j = index-most test (entries d) j (le-leb _ _ high) in
-    let inside : k < entries d = omega arith in
+    let most : k ≤ both .early = index-most test (entries d) (both .early) (le-leb _ _ (both .early-number)) in
+    let inside : k < entries d = omega (arith, both .early-inside) in
     let here : 70000000 ≤ jobNumber (entryAt d k) = leb-true _ _ (index-hit test (entries d) inside) in
     mixed-at d from limit e k inside here (λ n l. leb-false _ _ (index-before test (entries d) n l))
-    (omega (arith, recent-before d from limit e i k li low here))
+    (omega (arith, recent-before d from limit e (both .late) k (both .late-inside) (both .late-number) here))

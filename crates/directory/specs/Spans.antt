@@ -18,13 +18,21 @@ abbrev pub OneSpan : List ℕ → Type 0
 OneSpan d = ((i : ℕ) → i < entries d → digits (entryAt d i) ≡ true → jobNumber (entryAt d i) < 70000000)
     ⊎ ((i : ℕ) → i < entries d → digits (entryAt d i) ≡ true → 70000000 ≤ jobNumber (entryAt d i))
 
--- they are judged as before
+-- an entry `late` of 2000 to 2069, and an entry `early` of 1970 to 1999
+pub record BothSpans (d : List ℕ) : Type 0 where
+  pub late : ℕ
+  pub early : ℕ
+  pub late-inside : late < entries d
+  pub early-inside : early < entries d
+  pub late-number : jobNumber (entryAt d late) < 70000000
+  pub early-number : 70000000 ≤ jobNumber (entryAt d early)
+
+-- a directory of one span is judged as before
 abbrev pub SameSpan : Type 0
 SameSpan = (d : List ℕ) (from limit : ℕ) → OneSpan d
     → firstOf (directoryCases d from limit) ≡ firstOf (directoryCasesBy jobNumber d from limit)
 
--- one that was accepted, with entry i of 2000 to 2069 and entry j of 1970 to 1999
+-- one of both, accepted until now, gets 14
 abbrev pub MixedSpan : Type 0
-MixedSpan = (d : List ℕ) (from limit : ℕ) → firstOf (directoryCasesBy jobNumber d from limit) ≡ 0
-    → (i j : ℕ) → i < entries d → j < entries d → jobNumber (entryAt d i) < 70000000 → 70000000 ≤ jobNumber (entryAt d j)
+MixedSpan = (d : List ℕ) (from limit : ℕ) → firstOf (directoryCasesBy jobNumber d from limit) ≡ 0 → BothSpans d
     → firstOf (directoryCases d from limit) ≡ 14
