@@ -46,7 +46,7 @@ def place(number):
     """A job number's place in the order of the contents: its year, 1970 to 2069, then the other six digits.
 
     The documents speak of digits alone. In other bytes, by a rule of this project's own (docs/DECISIONS.md, 42), a byte
-    below the digit 0, or one that is missing, counts as 0.
+    counts by how far it is above the digit 0; one that is below, or missing, counts as 0.
     """
     values = [max(byte - 0x30, 0) for byte in number[:8].ljust(8, b"0")]
     year = 10 * values[0] + values[1]

@@ -236,13 +236,16 @@ def entries():
                 draft.entries[index][0] = bytes(number)
                 yield draft.case("entry %d, digit %d is byte %02x" % (index, at, byte), 13)
 
-    seconds = [(b"5" * 8, 14)]
-    for at in range(8):
-        seconds.append((b"5" * at + b"4" + b"9" * (7 - at), 14))
-        seconds.append((b"5" * at + b"6" + b"0" * (7 - at), 0))
-    for second, refusal in seconds:
-        draft = Draft(KEYS[16], 7, [(b"5" * 8, b"first"), (second, b"second")])
-        yield draft.case("55555555 then %s" % second.decode(), refusal)
+    # each digit one lower and one higher, in either span of years
+    for first in (b"55555555", b"85555555"):
+        seconds = [(first, 14)]
+        for at in range(8):
+            digit = first[at] - 0x30
+            seconds.append((first[:at] + b"%d" % (digit - 1) + b"9" * (7 - at), 14))
+            seconds.append((first[:at] + b"%d" % (digit + 1) + b"0" * (7 - at), 0))
+        for second, refusal in seconds:
+            draft = Draft(KEYS[16], 7, [(first, b"first"), (second, b"second")])
+            yield draft.case("%s then %s" % (first.decode(), second.decode()), refusal)
     for last, refusal in ((24000079, 14), (24000078, 14), (24000080, 0)):
         jobs = numbered([1] * 63)
         draft = Draft(KEYS[16], 7, jobs + [(digits(last), b"x")])
@@ -324,18 +327,27 @@ def years():
     def jobs(numbers):
         return [(number, text(i % 5)) for i, number in enumerate(numbers)]
 
-    yield Draft(KEYS[24], 7, jobs(IN_ORDER)).case("jobs of all years, in order", 0)
-    yield Draft(KEYS[24], 7, jobs(sorted(IN_ORDER))).case("jobs of all years, by the plain number", 14)
-    for start in range(1, len(IN_ORDER)):
+    each_year = [digits(year % 100 * 10**6) for year in range(1970, 2070)]
+    for start in (0, 36):
+        part = each_year[start : start + 64]
+        yield Draft(KEYS[16], 7, jobs(part)).case("a job of each year, %s to %s" % (part[0].decode(), part[-1].decode()), 0)
+    for year, next_year in zip(each_year, each_year[1:]):
+        draft = Draft(KEYS[16], 7, jobs([next_year, year]))
+        yield draft.case("%s, and then the year before" % next_year.decode(), 14)
+
+    # by the plain number is from 00000000 on
+    for start in range(len(IN_ORDER)):
         turned = IN_ORDER[start:] + IN_ORDER[:start]
-        yield Draft(KEYS[24], 7, jobs(turned)).case("jobs of all years, from %s on" % turned[0].decode(), 14)
+        draft = Draft(KEYS[24], 7, jobs(turned))
+        yield draft.case("jobs of both spans, from %s on" % turned[0].decode(), 14 if start else 0)
     old = [digits(97000000 + i) for i in range(32)]
     new = [digits(5000000 + i) for i in range(32)]
     yield Draft(KEYS[32], 7, jobs(old + new)).case("32 old jobs, then 32 new", 0)
     yield Draft(KEYS[32], 7, jobs(new + old)).case("32 new jobs, then 32 old", 14)
     yield Draft(KEYS[32], 7, jobs(new[:1] + old)).case("a new job, then 32 old", 14)
     yield Draft(KEYS[32], 7, jobs(new + old[:1])).case("32 new jobs, then an old one", 14)
-    yield Draft(KEYS[32], 7, jobs(old + new[:1] + old[:1])).case("32 old jobs, a new one, then an old one", 14)
+    later = [digits(97000032)]
+    yield Draft(KEYS[32], 7, jobs(old + new[:1] + later)).case("32 old jobs, a new one, then an old one", 14)
 
 
 # ---- faults that can be put into one draft together
@@ -401,7 +413,7 @@ def _no_digit(draft, index):
 
 
 def _not_above(draft, index):
-    draft.entries[index][0] = b"70000000"  # the lowest of all
+    draft.entries[index][0] = draft.entries[index - 1][0]
 
 
 def _start(draft, index):

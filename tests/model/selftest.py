@@ -1,4 +1,4 @@
-"""The model held to document 01's readings, to published vectors and to what each case was made for.
+"""The model held to the readings of documents 01 and 02, to published vectors and to what each case was made for.
 
     python3 tests/model/selftest.py
 """

@@ -24,9 +24,12 @@ use Rattle.directory.proofs.Spans.{same-span, mixed-span}
 use Rattle.archive.specs.Check.{keyCheck, fileCasesBy, checkCases, checkCasesBy}
 use Rattle.archive.specs.EarlyEnd.{fullFindCases, fullBodyOf, fullOpenCases, fullPlainOf}
 use Rattle.archive.specs.Find.{bodyAt}
-use Rattle.archive.specs.Spans.{SameSpanArchives, MixedSpanArchives}
+use Rattle.archive.specs.Open.{plainOf}
+use Rattle.archive.specs.Spans.{SameSpanArchives, AllRefuse, MixedSpanArchives}
 use Rattle.archive.proofs.Accepted.{accepted-directory, accepted-directory-by}
 use Rattle.archive.proofs.Checking.{check-positive}
+use Rattle.archive.proofs.Finding.{find-refused}
+use Rattle.archive.proofs.Opening.{opens-refused}
 use Rattle.archive.proofs.EarlyEnd.{unchanged-archives}
 
 module _ (o p : List ℕ → ℕ) (key file : List ℕ) where
@@ -80,9 +83,25 @@ same-span-archives key file number before one =
 
 -- ---- both spans
 
+-- a refused archive: every call refuses
+all-refuse : (n : ℕ) (key file number held : List ℕ) → n ≡ firstOf (checkCases key file) → (n ≡ 0 → ⊥) → AllRefuse n key file number held
+unfolding partFor writtenFor
+all-refuse n key file number held e h =
+    let checked = sym (refusal-is n (firstOf (checkCases key file)) (countOf file) e h) in
+    let found = sym (find-refused key file number n e h) in
+    let opened = sym (opens-refused key file number held n e h .answered) in
+    record {
+      checking = checked;
+      directory = ap (λ (a : Answer). partFor a (λ (i : ℕ). directoryOf file)) checked;
+      finding = found;
+      body = ap (λ (a : Answer). partFor a (bodyAt file)) found;
+      opening = opened;
+      bytes = ap (λ (a : Answer). writtenFor a (plainOf (scheduleOf key) file number) held) opened;
+    }
+
 pub mixed-span-archives : MixedSpanArchives
-mixed-span-archives key file n e both =
+mixed-span-archives key file number held n e both =
     let p = answer-gives (firstOf (checkCasesBy jobNumber key file)) (countOf file) n e in
     let mixed = mixed-span (directoryOf file) (directoryEnd file) (bodiesEnd file) (accepted-directory jobNumber key file (p .0)) both in
     let judged = accepted-directory-by jobNumber key file (p .0) orderOf ∙ mixed in
-    sym (refusal-is 14 (firstOf (checkCases key file)) (countOf file) (sym judged) (λ z. omega arith))
+    all-refuse 14 key file number held (sym judged) (λ z. omega arith)

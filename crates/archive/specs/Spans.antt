@@ -4,32 +4,45 @@
 -- theorems are `same-span-archives` and `mixed-span-archives` of proofs/Spans.
 -- Assumes nothing.
 use mathlib.Core.Path.{_≡_}
-use mathlib.Core.List.{List}
+use mathlib.Core.List.{List, []}
 use Prim.Native.Nat.{ℕ}
+use lib.ListN.{length}
 use Rattle.refusals.specs.Cases.{firstOf}
-use Rattle.refusals.specs.Answers.{Answer, refused, gives, answer, partFor}
+use Rattle.refusals.specs.Answers.{Answer, refused, gives, answer, partFor, writtenFor}
+use Rattle.expansion.specs.KeySchedule.{scheduleOf}
 use Rattle.header.specs.Fields.{countOf, directoryOf}
 use Rattle.jobnumber.specs.Number.{jobNumber}
 use Rattle.directory.specs.Spans.{OneSpan, BothSpans}
 use Rattle.archive.specs.Check.{checkCasesBy, checkOf, directoryGiven}
+use Rattle.archive.specs.Find.{findOf, bodyGiven}
+use Rattle.archive.specs.Open.{plainOf, openOf}
 use Rattle.archive.specs.EarlyEnd.{AsFull}
 
 -- what checking answered before
 abbrev pub plainCheckOf : List ℕ → List ℕ → Answer
 plainCheckOf key file = answer (firstOf (checkCasesBy jobNumber key file)) (countOf file)
 
--- every call of this crate comes to what it came to under the order of before; `room` is what the buffer for opening held. The places of
--- the parts, and the listing, follow from what is answered
-pub record AsBefore (key file number room : List ℕ) : Type 0 where
+-- every call of this crate comes to what it came to, finding, the body and opening over the full search; `held` is what the buffer for
+-- opening held. The places of the parts, and the listing, follow from what is answered
+pub record AsBefore (key file number held : List ℕ) : Type 0 where
   pub checking : checkOf key file ≡ plainCheckOf key file
   pub directory : directoryGiven key file ≡ partFor (plainCheckOf key file) (λ (n : ℕ). directoryOf file)
-  pub jobs : AsFull jobNumber key file number room
+  pub jobs : AsFull jobNumber key file number held
 
 -- the job numbers of the file all lie in the same span
 abbrev pub SameSpanArchives : Type 0
-SameSpanArchives = (key file number room : List ℕ) → OneSpan (directoryOf file) → AsBefore key file number room
+SameSpanArchives = (key file number held : List ℕ) → OneSpan (directoryOf file) → AsBefore key file number held
+
+-- every call refuses with n, hands back no byte and alters none
+pub record AllRefuse (n : ℕ) (key file number held : List ℕ) : Type 0 where
+  pub checking : checkOf key file ≡ refused n
+  pub directory : directoryGiven key file ≡ []
+  pub finding : findOf key file number ≡ refused n
+  pub body : bodyGiven key file number ≡ []
+  pub opening : openOf key file number (length held) ≡ refused n
+  pub bytes : writtenFor (openOf key file number (length held)) (plainOf (scheduleOf key) file number) held ≡ held
 
 -- those of one that was accepted lie in both spans
 abbrev pub MixedSpanArchives : Type 0
-MixedSpanArchives = (key file : List ℕ) (n : ℕ) → plainCheckOf key file ≡ gives n → BothSpans (directoryOf file)
-    → checkOf key file ≡ refused 14
+MixedSpanArchives = (key file number held : List ℕ) (n : ℕ) → plainCheckOf key file ≡ gives n → BothSpans (directoryOf file)
+    → AllRefuse 14 key file number held

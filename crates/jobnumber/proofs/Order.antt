@@ -103,10 +103,13 @@ spans s h =
     let y = year-most s h in
     let n = serial-most s h in
     record {
+      parts = split s;
+      two = omega arith;
+      six = omega arith;
       old = λ l. let c = century-old s (omega (arith, split s)) in
-          (omega (arith, split s), omega (arith, split s), order-century s ∙ ap (λ (k : ℕ). k * 100000000 + jobNumber s) c);
+          (omega (arith, split s), omega arith, order-century s ∙ ap (λ (k : ℕ). k * 100000000 + jobNumber s) c);
       recent = λ l. let c = century-recent s (omega (arith, split s)) in
-          (omega (arith, split s), omega (arith, split s), order-century s ∙ ap (λ (k : ℕ). k * 100000000 + jobNumber s) c);
+          (omega (arith, split s), omega arith, order-century s ∙ ap (λ (k : ℕ). k * 100000000 + jobNumber s) c);
     }
 
 -- numbers moved alike
@@ -151,4 +154,4 @@ module _ (s t : List ℕ) (h : digits s ≡ true) (g : digits t ≡ true) where
       ltb-true _ _
       (by-year s t h g
       ∙ ap (λ (b : Bool). b || (eqb (yearOf s) (yearOf t) && ltb (serialOf s) (serialOf t)))
-      (lt-ltb (yearOf s) (yearOf t) (omega (arith, spans s h .old l .1, spans t g .recent m .0))))
+      (lt-ltb (yearOf s) (yearOf t) (omega (arith, spans s h .two, spans s h .old l .1, spans t g .recent m .1))))

@@ -290,6 +290,12 @@ fn search_years() {
     print_search(b"05000001", plain);
 }
 
+// Bytes that are no digits in the year: one that makes it 104, one that makes it 9.
+fn search_other_years() {
+    print_search(b"24000017", b":4000000........24000017........");
+    print_search(b"24000017", b"/9000000........24000017........");
+}
+
 // The plain block of RFC 5794, appendix A.
 fn rfc_block() -> [u8; 16] {
     [
@@ -340,6 +346,7 @@ fn main() {
     search_lengths();
     search_other_bytes();
     search_years();
+    search_other_years();
     print_run(b"plain, RFC 5794 A.1: ", Engine::Plain);
     print_run(b"tables, RFC 5794 A.1: ", Engine::Tables);
 }
