@@ -1,6 +1,6 @@
 -- What an archive without a case, by any order of job numbers, is known to have: each stage's part of it.
 -- Assumes nothing.
-use mathlib.Core.Path.{_≡_, _∙_}
+use mathlib.Core.Path.{_≡_}
 use mathlib.Core.Bool.{true}
 use mathlib.Core.List.{List}
 use Prim.Native.Nat.{ℕ, _+_, _<_, _≤_}
@@ -8,7 +8,7 @@ use native.Mathlib.Omega.{arith}
 use lib.ListN.{length}
 use Rattle.refusals.specs.Cases.{firstOf}
 use Rattle.refusals.specs.Shared.{goodRounds, keyCases}
-use Rattle.refusals.proofs.Cases.{first-pass, first-none}
+use Rattle.refusals.proofs.Cases.{first-none}
 use Rattle.refusals.proofs.Shared.{key-positive, key-good}
 use Rattle.expansion.specs.KeySchedule.{scheduleOf}
 use Rattle.expansion.proofs.KeyLengths.{good-rounds}
@@ -21,6 +21,7 @@ use Rattle.directory.specs.Check.{directoryCasesBy}
 use Rattle.directory.proofs.Accepted.{directory-within}
 use Rattle.archive.specs.Check.{keyCheck, fileCasesBy, checkCasesBy}
 use Rattle.archive.specs.Find.{bodyStart}
+use Rattle.archive.proofs.Checking.{check-directory}
 
 module _ (order : List ℕ → ℕ) (key file : List ℕ) (e : firstOf (checkCasesBy order key file) ≡ 0) where
   stages : (firstOf (keyCases (length key)) ≡ 0) × (firstOf (fileCasesBy order (scheduleOf key) (length key) file) ≡ 0)
@@ -41,13 +42,10 @@ module _ (order : List ℕ → ℕ) (key file : List ℕ) (e : firstOf (checkCas
   pub accepted-directory : firstOf (directoryCasesBy order (directoryOf file) (directoryEnd file) (bodiesEnd file)) ≡ 0
   accepted-directory = file-stages .1
 
-  -- key and header know no order: by another only the directory is left
+  -- by another order only the directory is left
   pub accepted-directory-by : (other : List ℕ → ℕ) → firstOf (checkCasesBy other key file)
       ≡ firstOf (directoryCasesBy other (directoryOf file) (directoryEnd file) (bodiesEnd file))
-  unfolding checkCasesBy fileCasesBy
-  accepted-directory-by other =
-      first-pass (keyCases (length key)) _ (key-positive (length key)) (stages .0)
-      ∙ first-pass (headerCases (length key) (keyCheck (scheduleOf key)) file) _ (header-positive _ _ file) (file-stages .0)
+  accepted-directory-by other = check-directory other key file (stages .0) (file-stages .0)
 
   pub accepted-entries : entries (directoryOf file) ≡ countOf file
   accepted-entries =

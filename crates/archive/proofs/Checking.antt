@@ -26,6 +26,7 @@ use Rattle.expansion.proofs.Taken.{number-else}
 use Rattle.header.specs.Fields.{directoryEnd, directoryOf, bodiesEnd}
 use Rattle.header.specs.Cases.{headerCases}
 use Rattle.header.proofs.Cases.{notOfHeader, header-positive, header-lacks}
+use Rattle.directory.specs.Check.{directoryCasesBy}
 use Rattle.directory.proofs.Cases.{notOfDirectory, directory-positive, directory-lacks}
 use Rattle.archive.specs.Check.{keyCheck, fileCases, fileCasesBy, checkCases, checkCasesBy}
 
@@ -56,6 +57,14 @@ module _ (order : List ℕ → ℕ) (key file : List ℕ) where
       lacks-append m (keyCases (length key)) _ (key-lacks m (length key) (h .0))
       (lacks-append m (headerCases (length key) (keyCheck (scheduleOf key)) file) _ (header-lacks _ _ file m (g .0))
       (directory-lacks order (directoryOf file) (directoryEnd file) (bodiesEnd file) m (g .1)))
+
+  -- key and header know no order: where they have no case only the directory is left
+  pub check-directory : firstOf (keyCases (length key)) ≡ 0 → firstOf (headerCases (length key) (keyCheck (scheduleOf key)) file) ≡ 0
+      → firstOf (checkCasesBy order key file) ≡ firstOf (directoryCasesBy order (directoryOf file) (directoryEnd file) (bodiesEnd file))
+  unfolding checkCasesBy fileCasesBy
+  check-directory k h =
+      first-pass (keyCases (length key)) _ (key-positive (length key)) k
+      ∙ first-pass (headerCases (length key) (keyCheck (scheduleOf key)) file) _ (header-positive _ _ file) h
 
 -- the two ways out of admission
 module _ (key file : List ℕ) (p : Prepared) (r : Prepares key p) (n : ℕ) where

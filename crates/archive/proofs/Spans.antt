@@ -63,13 +63,13 @@ module _ (o p : List ℕ → ℕ) (key file : List ℕ) where
 -- ---- one span
 
 pub same-span-archives : SameSpanArchives
-same-span-archives key file number before one =
+same-span-archives key file number held one =
     let judged = check-alike orderOf jobNumber key file (same-span (directoryOf file) (directoryEnd file) (bodiesEnd file) one) in
     let checked = ap (λ (n : ℕ). answer n (countOf file)) judged in
-    let full = unchanged-archives key file number before in
+    let full = unchanged-archives key file number held in
     let found = ap (λ (n : ℕ). answer n (fullIndexOf (directoryOf file) number)) (find-alike orderOf jobNumber key file number judged) in
     let opened = ap (λ (n : ℕ). answer n (length (fullBodyOf file number)))
-    (open-alike orderOf jobNumber key file number judged (length before)) in
+    (open-alike orderOf jobNumber key file number judged (length held)) in
     record {
       checking = checked;
       directory = ap (λ (a : Answer). partFor a (λ (n : ℕ). directoryOf file)) checked;
@@ -77,7 +77,7 @@ same-span-archives key file number before one =
         finding = full .finding ∙ found;
         body = full .body ∙ ap (λ (a : Answer). partFor a (bodyAt file)) found;
         opening = full .opening ∙ opened;
-        bytes = full .bytes ∙ ap (λ (a : Answer). writtenFor a (fullPlainOf (scheduleOf key) file number) before) opened;
+        bytes = full .bytes ∙ ap (λ (a : Answer). writtenFor a (fullPlainOf (scheduleOf key) file number) held) opened;
       };
     }
 

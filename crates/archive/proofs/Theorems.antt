@@ -5,30 +5,25 @@ use mathlib.Core.List.{List, _++_, append-assoc, append-nil}
 use Prim.Native.Nat.{ℕ, zero, suc, _≤_}
 use native.Mathlib.Nat.{zero-add}
 use native.Mathlib.Omega.{arith}
-use lib.ListN.{length, getD, take}
+use lib.ListN.{getD, take}
 use lib.Seq.{take-add, take-length}
 use Rattle.blocks.specs.Blocks.{row}
 use Rattle.blocks.specs.Xor.{_⊕_}
 use Rattle.refusals.specs.Cases.{firstOf}
-use Rattle.refusals.specs.Shared.{keyCases}
-use Rattle.refusals.proofs.Cases.{first-pass}
 use Rattle.refusals.proofs.Answers.{answer-none, answer-gives}
-use Rattle.refusals.proofs.Shared.{key-positive}
-use Rattle.expansion.specs.KeySchedule.{scheduleOf}
 use Rattle.ctr.specs.Counter.{keystream}
 use Rattle.ctr.proofs.Streams.{length-stream, stream-at, stream-twice}
 use Rattle.header.specs.Fields.{countOf, directoryEnd, directoryOf, bodiesEnd}
-use Rattle.header.specs.Cases.{headerCases}
-use Rattle.header.proofs.Cases.{header-positive}
 use Rattle.jobnumber.specs.Number.{orderOf}
 use Rattle.directory.specs.Entries.{entries, entryAt, startOf, sizeOf}
 use Rattle.directory.specs.Check.{bodyFrom}
 use Rattle.directory.specs.Sound.{Sound}
 use Rattle.directory.proofs.Accepted.{sound-directories, sound-accepted}
-use Rattle.archive.specs.Check.{keyCheck, fileCasesBy, checkCases, checkCasesBy}
+use Rattle.archive.specs.Check.{checkCases}
 use Rattle.archive.specs.Find.{bodyAt}
 use Rattle.archive.specs.Open.{prefixOf, underKeystream}
 use Rattle.archive.specs.Theorems.{bodies, SoundArchives, AcceptedArchives, OpeningXors}
+use Rattle.archive.proofs.Checking.{check-directory}
 use Rattle.archive.proofs.Accepted.{accepted-directory, accepted-entries}
 
 module _ (file : List ℕ) (sound : Sound (directoryOf file) (directoryEnd file) (bodiesEnd file)) where
@@ -62,12 +57,9 @@ sound-archives key file n e =
     }
 
 pub accepted-archives : AcceptedArchives
-unfolding checkCasesBy fileCasesBy
 accepted-archives key file k h sound =
     answer-none _ _
-    (first-pass (keyCases (length key)) _ (key-positive (length key)) k
-    ∙ first-pass (headerCases (length key) (keyCheck (scheduleOf key)) file) _ (header-positive _ _ file) h
-    ∙ sound-accepted (directoryOf file) (directoryEnd file) (bodiesEnd file) sound)
+    (check-directory orderOf key file k h ∙ sound-accepted (directoryOf file) (directoryEnd file) (bodiesEnd file) sound)
 
 pub opening-xors : OpeningXors
 unfolding underKeystream
