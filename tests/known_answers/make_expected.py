@@ -14,8 +14,12 @@ Then a line a call on the sample archive, examples/sample:
     open NUMBER in N bytes: bytes M, buffer HEX
 
 or `refused R` in place of the index or the bytes, and no bytes of a body. The buffer of N bytes is
-shown whole, and had FILL everywhere before. Then a line a search of bare contents, in which FILL
-stands for what a search does not look at,
+shown whole, and had FILL everywhere before. Then a line a range,
+
+    open NUMBER from FIRST, count COUNT, in N bytes: bytes M, buffer HEX
+
+where the calls with buffers of one length have one buffer in turn. Then a line a search of bare
+contents, in which FILL stands for what a search does not look at,
 
     search 'NUMBER' in 'CONTENTS': index I
 
@@ -64,6 +68,20 @@ SEARCHES = [
     (b"05000001", [b"05000001", b"97000004"], 0),
     (b"24000017", [b":4000000", b"24000017"], 0),
     (b"24000017", [b"/9000000", b"24000017"], 0),
+]
+
+
+# The number asked for, the first byte, the count, and the buffer's length.
+RANGES = [
+    (b"24000017", 5, 1, 8),
+    (b"24000017", 2**64 - 1, 1, 8),
+    (b"24000017", 1, 2**64 - 1, 8),
+    (b"24000019", 9, 9, 8),
+    (b"24000017", 1, 3, 8),
+    (b"24000017", 5, 0, 8),
+    (b"24000017", 1, 3, 2),
+    (b"24000017", 1, 5, 2),
+    (b"24000017", 3, 2, 2),
 ]
 
 
@@ -126,6 +144,21 @@ def opened(file, number, room):
         return "refused %d, buffer %s" % (refused.number, buffer.hex())
 
 
+def ranges(file):
+    """Ranges about the ends of the job of five bytes and of the buffers, which a later call finds as an earlier one left them."""
+    buffers = {8: FILL * 8, 2: FILL * 2}
+    for number, first, count, room in RANGES:
+        buffer = buffers[room]
+        try:
+            plain = archive.open_range(KEY, file, number, first, count, room)
+            buffers[room] = buffer = plain + buffer[len(plain) :]
+            answer = "bytes %d" % len(plain)
+        except archive.Refused as refused:
+            answer = "refused %d" % refused.number
+        call = "open %s from %d, count %d, in %d bytes" % (number.decode(), first, count, room)
+        yield call, "%s, buffer %s" % (answer, buffer.hex())
+
+
 def calls(file):
     # the second job, whose index is not 0, and one that is not there
     for number in (b"24000018", b"24000019"):
@@ -149,6 +182,8 @@ if __name__ == "__main__":
     for case, file in cases():
         print("%s: %s" % (case, answer(file)))
     for call, given in calls(sample()):
+        print("%s: %s" % (call, given))
+    for call, given in ranges(sample()):
         print("%s: %s" % (call, given))
     for call, given in searches():
         print("%s: %s" % (call, given))

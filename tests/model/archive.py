@@ -1,9 +1,10 @@
-"""The rules of the dryer archive, layout 1, read straight from document 01, with document 02's requests b and e.
+"""The rules of the dryer archive, layout 1, read straight from document 01, with document 02's requests b, e and f.
 
 A model for tests: plain Python over whole numbers and bytes, written apart from the proved code and
 sharing nothing with it. Refusals carry document 01's numbers.
 """
 
+import functools
 from collections import namedtuple
 
 import libcrypto
@@ -120,12 +121,28 @@ def exclusive_or(a, b):
     return bytes(x ^ y for x, y in zip(a, b))
 
 
-def open_job(key, file, number, room=LONGEST_FILE):
-    """The job's plain bytes. Refusals of `find`, then 20 where a buffer of `room` bytes is too short."""
+@functools.lru_cache(maxsize=256)
+def plain_bytes(key, file, number):
+    """The job's plain bytes, all of them. Refusals of `find`."""
     entry = entry_at(file, find(key, file, number))
-    refuse_if(room < entry.length, 20)
     body = file[entry.start : entry.start + entry.length]
     return exclusive_or(body, keystream(key, number_at(file, 4, 4), entry.digits, entry.length))
+
+
+def open_job(key, file, number, room=LONGEST_FILE):
+    """The job's plain bytes. Refusals of `find`, then 20 where a buffer of `room` bytes is too short."""
+    plain = plain_bytes(key, file, number)
+    refuse_if(room < len(plain), 20)
+    return plain
+
+
+def open_range(key, file, number, first, count, room=LONGEST_FILE):
+    """`count` of the job's plain bytes, from byte `first` on. Refusals of `find`, then 26 where the range passes the
+    job's end, then 20 where a buffer of `room` bytes is too short for the range."""
+    plain = plain_bytes(key, file, number)
+    refuse_if(first + count > len(plain), 26)
+    refuse_if(room < count, 20)
+    return plain[first : first + count]
 
 
 def jobs_text(key, file):
@@ -141,9 +158,13 @@ def jobs_text(key, file):
     return b"".join(lines)
 
 
-def open_output(key, file, number):
-    """What the program `open` writes: standard output, standard error."""
+def open_output(key, file, number, *words):
+    """What the program `open` writes, standard output and standard error, of a number and of the words of a range: none,
+    or a first byte and a count in decimal."""
     try:
+        if words:
+            first, count = map(int, words)
+            return open_range(key, file, number, first, count), b""
         return open_job(key, file, number), b""
     except Refused as refused:
         return b"", b"refused %d\n" % refused.number

@@ -7,8 +7,9 @@ archive as a file or through a pipe in turn; some go through a slow pipe in smal
 written is compared. The last line is `archive model: N cases agree`, or says how many differ, and
 then the exit status is 1.
 
-Refusal 20 is not met here: no body is longer than 65,536 bytes, and `open` lends that much. The program
-`known_answers` meets it. What the programs do where reading or writing fails is tests/programs.
+Refusal 20 is not met here: no body is longer than 65,536 bytes, and `open` lends that much. ranges.py and
+the program `known_answers` meet it. What the programs do where reading or writing fails, and of words that
+they do not take, is tests/programs.
 """
 
 import argparse
@@ -57,8 +58,8 @@ def expected_of_jobs(case):
     return Written(archive.jobs_text(case.key or b"", case.file), b"", 0)
 
 
-def expected_of_open(case, number):
-    return Written(*archive.open_output(case.key or b"", case.file, number), 0)
+def expected_of_open(case, words):
+    return Written(*archive.open_output(case.key or b"", case.file, *words), 0)
 
 
 def in_turn(program, turn, case, arguments=()):
@@ -92,17 +93,29 @@ def run_jobs(path, all_cases, comparison):
             comparison.note("jobs, slow pipe", case, expected_of_jobs(case), written)
 
 
-def numbers_to_ask(case, turn):
-    """Job numbers for `open`: the first, middle and last two of the contents.
+def decimal(*numbers):
+    return tuple(b"%d" % number for number in numbers)
 
-    An archive that is refused is refused whatever is asked: a number, or by turns what is none.
+
+def words_to_ask(case, turn):
+    """Words for `open`: the first, middle and last two jobs of the contents, whole, and a range of one of them.
+
+    An archive that is refused is refused whatever is asked: a number, or by turns what is none, whole or a range.
     """
     try:
         count = archive.check(case.key or b"", case.file)
     except archive.Refused:
-        return [b"24000017" if turn % 4 < 2 else b"2400001"]
-    indices = sorted({0, count // 2, count - 2, count - 1} & set(range(count)))
-    return [archive.entry_at(case.file, index).digits for index in indices]
+        number = b"24000017" if turn % 4 < 2 else b"2400001"
+        return [(number, *decimal(2, 2)) if turn % 8 == 0 else (number,)]
+    entries = [archive.entry_at(case.file, i) for i in sorted({0, count // 2, count - 2, count - 1} & set(range(count)))]
+    whole = [(entry.digits,) for entry in entries]
+    if not entries:
+        return whole
+    entry = entries[turn % len(entries)]
+    # within the job, from a start that changes with the turn; every ninth passes the end by a byte
+    first = turn * 7 % (entry.length + 1)
+    length = entry.length - first
+    return whole + [(entry.digits, *decimal(first, length + 1 if turn % 9 == 0 else turn * 5 % (length + 1)))]
 
 
 def questions():
@@ -135,22 +148,57 @@ def questions():
     yield empty.case("no jobs", 0), b""
 
 
+def ranges():
+    """Ranges: all of three short jobs, to past their ends; of a long one, about the borders of blocks, of chunks and its end; of a job of
+    no bytes; with large numbers and leading zeros; of a number that is none, of one that is not there, of an archive that is refused."""
+    short = cases.three_jobs().case("three jobs", 0)
+    for number, _, length in cases.three_jobs().entries:
+        for first in range(length + 3):
+            for count in range(length + 3 - min(first, length)):
+                yield short, (number, *decimal(first, count))
+    long_jobs = [(b"24000016", cases.text(13)), (b"24000017", cases.text(60000))]
+    long = cases.Draft(cases.KEYS[32], 7, long_jobs).case("a job of 60,000 bytes", 0)
+    borders = [0, 1, 15, 16, 17, 4095, 4096, 4097, 8191, 8192, 8193, 59999, 60000]
+    for first in borders:
+        for end in borders + [60001]:
+            if first <= end:
+                yield long, (b"24000017", *decimal(first, end - first))
+    huge = [2**32 - 1, 2**32, 2**63 - 1, 2**63, 2**64 - 2, 2**64 - 1]
+    for number in huge:
+        for other in [0, 1, 2, 16] + huge:
+            yield long, (b"24000017", *decimal(number, other))
+            yield long, (b"24000017", *decimal(other, number))
+    for words in ((b"0001", b"02"), (b"0" * 20, b"0" * 19 + b"1"), (b"00000000000000059999", b"1"), (b"0" * 20, b"0" * 20)):
+        yield long, (b"24000017", *words)
+    refused = cases.three_jobs()
+    refused.tail = b"\0"
+    for first, count in ((0, 0), (2, 3), (5, 1), (2**64 - 1, 2**64 - 1)):
+        for number in (b"24000016", b"2400001", b"24000017"):
+            yield short, (number, *decimal(first, count))
+            yield refused.case("three jobs and a byte", 17), (number, *decimal(first, count))
+
+
 def run_open(path, all_cases, comparison):
     with Program(path) as program:
         turn = 0
-        for case in all_cases:
-            for number in numbers_to_ask(case, turn):
-                written = in_turn(program, turn, case, (number,))
-                comparison.note("open %r" % number, case, expected_of_open(case, number), written)
-                turn += 1
-        for case, number in questions():
-            written = in_turn(program, turn, case, (number,))
-            comparison.note("open %r" % number[:40], case, expected_of_open(case, number), written)
+
+        def compare(case, words):
+            nonlocal turn
+            written = in_turn(program, turn, case, words)
+            comparison.note("open %s" % (tuple(word[:40] for word in words),), case, expected_of_open(case, words), written)
             turn += 1
+
+        for case in all_cases:
+            for words in words_to_ask(case, turn):
+                compare(case, words)
+        for case, number in questions():
+            compare(case, (number,))
+        for case, words in ranges():
+            compare(case, words)
         for case, piece in SLOW:
-            number = numbers_to_ask(case, 0)[-1]
-            written = program.from_pipe(case.key, case.file, piece, (number,))
-            comparison.note("open, slow pipe", case, expected_of_open(case, number), written)
+            words = words_to_ask(case, 1)[-1]
+            written = program.from_pipe(case.key, case.file, piece, words)
+            comparison.note("open, slow pipe", case, expected_of_open(case, words), written)
 
 
 def main():

@@ -144,6 +144,54 @@ class Opening(unittest.TestCase):
         self.assertEqual(refusal(archive.open_job, key, file, b"24000018", 0), 0)
 
 
+class Ranges(unittest.TestCase):
+    """Document 02, f."""
+
+    def test_a_range_is_that_part_of_counter_mode(self):
+        """By libcrypto's counter mode from the block of the first byte on."""
+        for key in cases.KEYS.values():
+            file = cases.Draft(key, 0x01020304, cases.numbered([100])).file()
+            entry = archive.entry_at(file, 0)
+            body = file[entry.start :]
+            for first in range(101):
+                for count in range(101 - first):
+                    block = archive.counter_block(0x01020304, entry.digits, first // 16)
+                    skipped = first % 16
+                    plain = libcrypto.counter(key, block, bytes(skipped) + body[first : first + count])[skipped:]
+                    self.assertEqual(archive.open_range(key, file, entry.digits, first, count), plain)
+
+    def test_adjoining_ranges_join(self):
+        key, jobs = cases.KEYS[16], cases.numbered([40])
+        file, (number, plain) = cases.Draft(key, 7, jobs).file(), jobs[0]
+        for first in range(41):
+            for m in range(41 - first):
+                for n in range(41 - first - m):
+                    both = archive.open_range(key, file, number, first, m) + archive.open_range(key, file, number, first + m, n)
+                    self.assertEqual(both, archive.open_range(key, file, number, first, m + n, m + n))
+        self.assertEqual(archive.open_range(key, file, number, 0, 40), plain)
+
+    def test_refusals_and_their_order(self):
+        sample = cases.sample()
+        key, file = sample.key, sample.file()
+        for number, first, count, room, wanted in (
+            (b"24000017", 0, 5, 5, 0),
+            (b"24000017", 5, 0, 0, 0),
+            (b"24000017", 2, 3, 3, 0),
+            (b"24000017", 2, 3, 2, 20),
+            (b"24000017", 0, 6, 9, 26),
+            (b"24000017", 5, 1, 0, 26),
+            (b"24000017", 6, 0, 0, 26),
+            (b"24000017", 2**64 - 1, 1, 9, 26),
+            (b"24000017", 1, 2**64 - 1, 9, 26),
+            (b"24000018", 0, 0, 0, 0),
+            (b"24000018", 0, 1, 9, 26),
+            (b"24000019", 9, 9, 0, 19),
+            (b"2400001", 9, 9, 0, 18),
+        ):
+            self.assertEqual(refusal(archive.open_range, key, file, number, first, count, room), wanted)
+            self.assertEqual(refusal(archive.open_range, key, file[:-1], number, first, count, room), 10)
+
+
 class Searching(unittest.TestCase):
     def test_archives_are_searched_as_in_full(self):
         seen = 0

@@ -4,6 +4,7 @@ use mathlib.Core.Path.{_≡_, refl, sym, ap, _∙_, subst}
 use mathlib.Core.Bool.{Bool, true, false, not, cond}
 use mathlib.Core.List.{List, [], _∷_}
 use Prim.Native.Nat.{ℕ, zero, suc, _<_, _≤_}
+use native.Mathlib.Nat.{le-of-eq}
 use native.Mathlib.Omega.{arith}
 use borrow.Author.Tests.{eqb-true, not-false}
 use denote.Ref.{RefT, now}
@@ -18,12 +19,14 @@ use Rattle.octets.specs.Parts.{liesAt}
 use Rattle.header.specs.Fields.{directoryOf}
 use Rattle.directory.specs.Entries.{entries}
 use Rattle.jobnumber.specs.Number.{digits, isJobNumber, orderOf}
-use Rattle.directory.specs.Search.{indexOf, searchCases}
+use Rattle.directory.specs.Search.{indexOf, searchCases, searchOf}
 use Rattle.directory.proofs.Accepted.{sound-directories}
-use Rattle.directory.proofs.Searching.{some-inside, some-bears}
+use Rattle.directory.proofs.Entries.{entry-none}
+use Rattle.directory.proofs.Searching.{missing-is, some-inside, some-bears}
 use Rattle.directory.proofs.EarlyEnd.{none-bears}
 use Rattle.archive.specs.Check.{checkCases}
-use Rattle.archive.specs.Find.{numberCases, findCases, findOf, Finds, bodyStart, GivesBody}
+use Rattle.archive.specs.Find.{numberCases, findCases, findOf, Finds, bodyStart, bodyAt, GivesBody}
+use Rattle.archive.specs.Open.{jobSize}
 use Rattle.archive.specs.Internal.{BodyPart, lookupOf}
 use Rattle.archive.proofs.Checking.{check-positive, check-lacks}
 use Rattle.archive.proofs.Accepted.{accepted-directory, accepted-entries, accepted-within}
@@ -57,6 +60,24 @@ module _ (file number : List ℕ) where
       let none = answer-gives _ _ i (sym e) .0 in
       let good = not-false _ (clear (numberCases file number) number-positive none 0) in
       eqb-true (length number) 8 (both-true (eqb (length number) 8) (digits number) good .0)
+
+-- ---- how many bytes a job has, in any file
+
+module _ (file number : List ℕ) where
+  -- the search comes to no entry
+  pub size-none : (n : ℕ) → refused n ≡ searchOf (directoryOf file) number → 0 ≡ jobSize file number
+  unfolding bodyAt
+  size-none n e =
+      let d : List ℕ = directoryOf file in
+      let p = answer-number (firstOf (searchCases d number)) (indexOf d number) n (sym e) in
+      let past : entries d ≤ indexOf d number = le-of-eq (sym (missing-is d number _ refl (p .1) .0)) in
+      rw (entry-none d (indexOf d number) past)
+
+  -- it comes to entry i, whose body is b
+  pub size-found : (i : ℕ) (b : List ℕ) → gives i ≡ searchOf (directoryOf file) number → b ≡ bodyAt file i → length b ≡ jobSize file number
+  size-found i b e eb =
+      let p = answer-gives (firstOf (searchCases (directoryOf file) number)) (indexOf (directoryOf file) number) i (sym e) in
+      ap length (eb ∙ ap (bodyAt file) (sym (p .1)))
 
 -- ---- after the check
 

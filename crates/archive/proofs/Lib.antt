@@ -3,6 +3,7 @@ pub mod Accepted
 pub mod Finding
 pub mod Plaintext
 pub mod Opening
+pub mod Ranges
 pub mod EarlyEnd
 pub mod Spans
 pub mod Theorems

@@ -1,111 +1,231 @@
--- Laws of opening: what each way out of the code has to show, stage by stage, and that the bytes opened lie within the buffer.
+-- Laws of opening: what each way out of the code has to show, stage by stage, and what an opening that gave bytes tells.
 -- Assumes nothing.
-use mathlib.Core.Path.{_≡_, refl, sym, ap, _∙_}
-use mathlib.Core.List.{List, _++_, append-assoc}
-use Prim.Native.Nat.{ℕ, _<_, _≤_}
+use mathlib.Core.Path.{_≡_, refl, sym, ap, ap₂, _∙_, subst}
+use mathlib.Core.Bool.{Bool, true, false}
+use mathlib.Core.List.{List, [], _∷_, _++_, append-assoc}
+use Prim.Native.Nat.{ℕ, _+_, _-_, _<_, _≤_}
+use native.Mathlib.Nat.{zero-add}
 use native.Mathlib.Omega.{arith}
-use borrow.Author.Tests.{lt-ltb, le-ltb}
-use lib.ListN.{length, drop, length-append}
-use Rattle.refusals.specs.Cases.{firstOf}
+use borrow.Author.Tests.{lt-ltb, le-ltb, ltb-true, ltb-false}
+use lib.Dec.{ltb}
+use lib.ListN.{length, take, drop, length-append, length-take, length-drop}
+use lib.Seq.{take-at, drop-at}
+use Rattle.refusals.specs.Cases.{when, firstOf, positive}
 use Rattle.refusals.specs.Answers.{Answer, refused, gives, answer, writtenFor}
-use Rattle.refusals.proofs.Cases.{one-applies, one-passes, first-pass}
+use Rattle.refusals.proofs.Cases.{skip, stop, clear, first-pass, first-none, positive-append}
 use Rattle.refusals.proofs.Answers.{answer-gives, answer-number, answer-none, answer-first, refusal-is}
 use Rattle.circuit.specs.declared.Schedule.{Schedule}
 use Rattle.expansion.specs.KeySchedule.{scheduleOf}
 use Rattle.ctr.specs.Counter.{keystream, addStream}
-use Rattle.ctr.proofs.Streams.{length-stream}
+use Rattle.ctr.proofs.Streams.{length-stream, stream-part}
 use Rattle.header.specs.Fields.{archiveNumber, directoryOf}
 use Rattle.jobnumber.specs.Number.{orderOf}
 use Rattle.directory.specs.Search.{indexOf}
 use Rattle.archive.specs.Check.{checkCases}
 use Rattle.archive.specs.Find.{numberCases, findCases, bodyAt}
-use Rattle.archive.specs.Open.{prefixOf, underKeystream, bodyOf, plainOf, roomCases, openCases, Opens}
-use Rattle.archive.specs.Internal.{OpensJob, lookupOf}
+use Rattle.archive.specs.Open.{prefixOf, underKeystream, bodyOf, plainOf, jobSize, rangeOf, plainRange, rangeCases}
+use Rattle.archive.specs.Open.{openCases, openOf, Opens}
+use Rattle.archive.specs.Internal.{OpensBody, OpensJob, lookupOf}
 use Rattle.archive.proofs.Checking.{check-positive}
 use Rattle.archive.proofs.Finding.{number-positive}
 
--- ---- opening a job of an accepted file
+-- ---- the range and the buffer
 
-room-short : (size room : ℕ) → room < size → firstOf (roomCases size room) ≡ 20
-unfolding roomCases
-room-short size room l = one-applies _ 20 (lt-ltb _ _ l)
+-- whether a range passes the end, in two steps that make no sum
+pub past-first : (size first count : ℕ) → size < first → true ≡ ltb size (first + count)
+past-first size first count l = sym (lt-ltb size (first + count) (omega arith))
 
-room-enough : (size room : ℕ) → size ≤ room → firstOf (roomCases size room) ≡ 0
-unfolding roomCases
-room-enough size room l = one-passes _ 20 (le-ltb _ _ l)
+pub past-count : (size first count : ℕ) → first ≤ size → ltb (size - first) count ≡ ltb size (first + count)
+past-count size first count l = go (ltb (size - first) count) refl
+  where
+    go : (b : Bool) → ltb (size - first) count ≡ b → ltb (size - first) count ≡ ltb size (first + count)
+    go true e = e ∙ sym (lt-ltb size (first + count) (omega (arith, ltb-true (size - first) count e)))
+    go false e = e ∙ sym (le-ltb size (first + count) (omega (arith, ltb-false (size - first) count e)))
 
-module _ (file number : List ℕ) where
-  module _ (s : Schedule) (before : List ℕ) where
-    -- the job is not found
-    pub job-refused : (n : ℕ) → refused n ≡ lookupOf file number → OpensJob s file number before (refused n) before
+pub range-positive : (size first count room : ℕ) → positive (rangeCases size first count room) ≡ true
+unfolding rangeCases positive
+range-positive size first count room = refl
+
+range-past : (size first count room : ℕ) → ltb size (first + count) ≡ true → firstOf (rangeCases size first count room) ≡ 26
+unfolding rangeCases
+range-past size first count room e = stop (rangeCases size first count room) 0 e
+
+range-short : (size first count room : ℕ) → ltb size (first + count) ≡ false → room < count
+    → firstOf (rangeCases size first count room) ≡ 20
+unfolding rangeCases
+range-short size first count room e l =
+    skip (rangeCases size first count room) 0 e ∙ stop (rangeCases size first count room) 1 (lt-ltb room count l)
+
+range-good : (size first count room : ℕ) → first + count ≤ size → count ≤ room → firstOf (rangeCases size first count room) ≡ 0
+unfolding rangeCases firstOf
+range-good size first count room l m =
+    skip (rangeCases size first count room) 0 (le-ltb size (first + count) l)
+    ∙ skip (rangeCases size first count room) 1 (le-ltb room count m)
+
+range-clear : (size first count room : ℕ) → firstOf (rangeCases size first count room) ≡ 0 → (first + count ≤ size) × (count ≤ room)
+unfolding rangeCases
+range-clear size first count room e =
+    let none = clear (rangeCases size first count room) (range-positive size first count room) e in
+    (ltb-false _ _ (none 0), ltb-false _ _ (none 1))
+
+-- all of the job's bytes: 20 is left
+pub range-whole : (size room : ℕ) → firstOf (rangeCases size 0 size room) ≡ firstOf (when (ltb room size) 20 ∷ [])
+unfolding rangeCases
+range-whole size room = skip (rangeCases size 0 size room) 0 (le-ltb size (0 + size) (omega arith))
+
+-- a range within so many bytes has as many as it says
+length-range : (first count : ℕ) (bytes : List ℕ) → first + count ≤ length bytes → length (rangeOf first count bytes) ≡ count
+length-range first count bytes l = simp (length-take, length-drop) (omega arith)
+
+-- ---- opening a range of a body
+
+module _ (s : Schedule) (prefix body : List ℕ) (first count : ℕ) (before : List ℕ) where
+  pub body-past : ltb (length body) (first + count) ≡ true → OpensBody s prefix body first count before (refused 26) before
+  unfolding writtenFor
+  body-past e =
+      let past = range-past (length body) first count (length before) e in
+      record { answered = refusal-is 26 _ _ (sym past) (λ q. omega arith); bytes = refl }
+
+  module _ (e : ltb (length body) (first + count) ≡ false) where
+    pub body-short : length before < count → OpensBody s prefix body first count before (refused 20) before
     unfolding writtenFor
-    job-refused n e =
-        let p = answer-number _ _ n (sym e) in
-        record { answered = ap refused (sym (p .0)) ∙ sym (answer-first (numberCases file number) _ _ (p .1)); bytes = refl }
+    body-short l =
+        let short = range-short (length body) first count (length before) e l in
+        record { answered = refusal-is 20 _ _ (sym short) (λ q. omega arith); bytes = refl }
 
-    -- the job is found at i, and b is its body
-    module _ (b : List ℕ) (i : ℕ) (e : gives i ≡ lookupOf file number) (h : b ≡ bodyAt file i) where
-      found-body : b ≡ bodyOf file number
-      found-body =
-          let p = answer-gives (firstOf (numberCases file number)) (indexOf (directoryOf file) number) i (sym e) in
-          h ∙ ap (bodyAt file) (sym (p .1))
+    pub body-open : (sealed after : List ℕ) → sealed ≡ rangeOf first count body → count ≤ length before
+        → after ≡ addStream (keystream s prefix) first sealed ++ drop (length sealed) before
+        → OpensBody s prefix body first count before (gives count) after
+    unfolding writtenFor
+    body-open sealed after es l w =
+        let within : first + count ≤ length body = ltb-false _ _ e in
+        let size : length sealed ≡ count = ap length es ∙ length-range first count body within in
+        record {
+          answered = sym (answer-none _ _ (range-good (length body) first count (length before) within l));
+          bytes = w ∙ ap₂ (λ (x : List ℕ) (n : ℕ). addStream (keystream s prefix) first x ++ drop n before) es size;
+        }
 
-      asked : firstOf (numberCases file number ++ roomCases (length (bodyOf file number)) (length before))
-          ≡ firstOf (roomCases (length (bodyOf file number)) (length before))
-      asked = first-pass (numberCases file number) _ (number-positive file number) (answer-gives _ _ i (sym e) .0)
+-- ---- opening a range of a job of an accepted file
 
-      pub job-short : length before < length b → OpensJob s file number before (refused 20) before
-      unfolding writtenFor
-      job-short l =
-          let short = room-short (length (bodyOf file number)) (length before) (rw (← found-body) l) in
-          record { answered = refusal-is 20 _ _ (sym (asked ∙ short)) (λ q. omega arith); bytes = refl }
+-- a range of a job's plain bytes is that range of its body under the keystream
+pub range-plain : (s : Schedule) (archive number bytes : List ℕ) (first count : ℕ) → rangeOf first count (underKeystream s archive number bytes)
+    ≡ addStream (keystream s (prefixOf archive number)) first (rangeOf first count bytes)
+unfolding underKeystream
+range-plain s archive number bytes first count =
+    let k : ℕ → ℕ = keystream s (prefixOf archive number) in
+    stream-part k 0 first count bytes ∙ ap (λ (i : ℕ). addStream k i (rangeOf first count bytes)) (zero-add first)
 
-      pub job-open : (prefix after : List ℕ) → prefix ≡ prefixOf (archiveNumber file) number → length b ≤ length before
-          → after ≡ addStream (keystream s prefix) 0 b ++ drop (length b) before → OpensJob s file number before (gives (length b)) after
-      unfolding writtenFor underKeystream
-      job-open prefix after ep l w =
-          let enough = room-enough (length (bodyOf file number)) (length before) (rw (← found-body) l) in
-          let k : ℕ → ℕ = keystream s (prefixOf (archiveNumber file) number) in
-          record {
-            answered = ap gives (ap length found-body) ∙ sym (answer-none _ _ (asked ∙ enough));
-            bytes = w
-                ∙ ap (λ (p : List ℕ). addStream (keystream s p) 0 b ++ drop (length b) before) ep
-                ∙ ap (λ (x : List ℕ). addStream k 0 x ++ drop (length b) before) found-body;
-          }
+module _ (s : Schedule) (file number : List ℕ) (first count : ℕ) (before : List ℕ) where
+  -- the job is not found
+  pub job-refused : (n : ℕ) → refused n ≡ lookupOf file number → OpensJob s file number first count before (refused n) before
+  unfolding writtenFor
+  job-refused n e =
+      let p = answer-number _ _ n (sym e) in
+      record { answered = ap refused (sym (p .0)) ∙ sym (answer-first (numberCases file number) _ _ (p .1)); bytes = refl }
+
+  -- the job is found at i, and a range of its body is opened
+  pub job-found : (i : ℕ) (prefix body after : List ℕ) (a : Answer) → gives i ≡ lookupOf file number → body ≡ bodyAt file i
+      → prefix ≡ prefixOf (archiveNumber file) number → OpensBody s prefix body first count before a after
+      → OpensJob s file number first count before a after
+  job-found i prefix body after a e eb ep o =
+      let p = answer-gives (firstOf (numberCases file number)) (indexOf (directoryOf file) number) i (sym e) in
+      let same : body ≡ bodyOf file number = eb ∙ ap (bodyAt file) (sym (p .1)) in
+      let rest = rangeCases (jobSize file number) first count (length before) in
+      let asked = first-pass (numberCases file number) rest (number-positive file number) (p .0) in
+      record {
+        answered = o .answered
+            ∙ ap (λ (l : List ℕ). answer (firstOf (rangeCases (length l) first count (length before))) count) same
+            ∙ ap (λ (n : ℕ). answer n count) (sym asked);
+        bytes = o .bytes
+            ∙ ap₂ (λ (q l : List ℕ). writtenFor a (addStream (keystream s q) first (rangeOf first count l)) before) ep same
+            ∙ ap (λ (l : List ℕ). writtenFor a l before) (sym (range-plain s (archiveNumber file) number (bodyOf file number) first count));
+      }
 
 -- ---- after the check
 
-module _ (key file number before : List ℕ) where
+module _ (key file number : List ℕ) (first count : ℕ) (before : List ℕ) where
   -- the archive is refused
-  pub opens-refused : (n : ℕ) → n ≡ firstOf (checkCases key file) → (n ≡ 0 → ⊥) → Opens key file number before (refused n) before
+  pub opens-refused : (n : ℕ) → n ≡ firstOf (checkCases key file) → (n ≡ 0 → ⊥) → Opens key file number first count before (refused n) before
   unfolding writtenFor openCases findCases
   opens-refused n e h =
-      let room = roomCases (length (bodyOf file number)) (length before) in
-      let all = ap firstOf (append-assoc (checkCases key file) (numberCases file number) room) in
-      let first = answer-first (checkCases key file) (numberCases file number ++ room) (length (bodyOf file number)) (λ q. h (e ∙ q)) in
-      record { answered = ap refused e ∙ sym (ap (λ (m : ℕ). answer m (length (bodyOf file number))) all ∙ first); bytes = refl }
+      let rest = rangeCases (jobSize file number) first count (length before) in
+      let all = ap firstOf (append-assoc (checkCases key file) (numberCases file number) rest) in
+      let stopped = answer-first (checkCases key file) (numberCases file number ++ rest) count (λ q. h (e ∙ q)) in
+      record { answered = ap refused e ∙ sym (ap (λ (m : ℕ). answer m count) all ∙ stopped); bytes = refl }
 
-  -- the archive is accepted: the cases of the number and of the buffer are left
+  -- the archive is accepted: the cases of the number, of the range and of the buffer are left
   pub opens-asked : (s : Schedule) (a : Answer) (after : List ℕ) → firstOf (checkCases key file) ≡ 0 → s ≡ scheduleOf key
-      → OpensJob s file number before a after → Opens key file number before a after
+      → OpensJob s file number first count before a after → Opens key file number first count before a after
   unfolding openCases findCases
   opens-asked s a after e es o =
-      let room = roomCases (length (bodyOf file number)) (length before) in
-      let all = ap firstOf (append-assoc (checkCases key file) (numberCases file number) room) in
-      let pass = first-pass (checkCases key file) (numberCases file number ++ room) (check-positive orderOf key file) e in
+      let rest = rangeCases (jobSize file number) first count (length before) in
+      let all = ap firstOf (append-assoc (checkCases key file) (numberCases file number) rest) in
+      let pass = first-pass (checkCases key file) (numberCases file number ++ rest) (check-positive orderOf key file) e in
       record {
-        answered = o .answered ∙ ap (λ (n : ℕ). answer n (length (bodyOf file number))) (sym (all ∙ pass));
-        bytes = o .bytes ∙ ap (λ (t : Schedule). writtenFor a (plainOf t file number) before) es;
+        answered = o .answered ∙ ap (λ (n : ℕ). answer n count) (sym (all ∙ pass));
+        bytes = o .bytes ∙ ap (λ (t : Schedule). writtenFor a (plainRange t file number first count) before) es;
       }
 
-  -- ---- the bytes opened stand at the buffer's front
+-- ---- what an opening that gave bytes tells
 
-  pub opens-fits : (a : Answer) (after : List ℕ) → Opens key file number before a after → (n : ℕ) → a ≡ gives n → n ≤ length after
-  unfolding writtenFor underKeystream
-  opens-fits a after o n e =
+pub find-positive : (key file number : List ℕ) → positive (findCases key file number) ≡ true
+unfolding findCases
+find-positive key file number =
+    positive-append (checkCases key file) (numberCases file number) (check-positive orderOf key file) (number-positive file number)
+
+-- the job is found, the range lies within it, and the buffer has room
+pub opens-none : (key file number : List ℕ) (first count room : ℕ) → firstOf (findCases key file number) ≡ 0
+    → first + count ≤ jobSize file number → count ≤ room → openOf key file number first count room ≡ gives count
+unfolding openCases
+opens-none key file number first count room f l m =
+    answer-none _ count (first-pass (findCases key file number) _ (find-positive key file number) f
+    ∙ range-good (jobSize file number) first count room l m)
+
+module _ (key file number : List ℕ) (first count : ℕ) (before after : List ℕ) (n : ℕ)
+    (o : Opens key file number first count before (gives n) after) where
+  given : (firstOf (openCases key file number first count (length before)) ≡ 0) × (count ≡ n)
+  given = answer-gives _ _ n (sym (o .answered))
+
+  stages : (firstOf (findCases key file number) ≡ 0) × (firstOf (rangeCases (jobSize file number) first count (length before)) ≡ 0)
+  unfolding openCases
+  stages = first-none (findCases key file number) _ (find-positive key file number) (given .0)
+
+  pub opened-count : n ≡ count
+  opened-count = sym (given .1)
+
+  pub opened-found : firstOf (findCases key file number) ≡ 0
+  opened-found = stages .0
+
+  pub opened-within : first + count ≤ jobSize file number
+  opened-within = range-clear _ first count _ (stages .1) .0
+
+  -- as many bytes as were asked for
+  size : length (plainRange (scheduleOf key) file number first count) ≡ n
+  unfolding underKeystream
+  size =
       let k : ℕ → ℕ = keystream (scheduleOf key) (prefixOf (archiveNumber file) number) in
-      let room = firstOf (openCases key file number (length before)) in
-      let size = answer-gives room (length (bodyOf file number)) n (sym (o .answered) ∙ e) .1 in
-      let bytes = o .bytes ∙ ap (λ (b : Answer). writtenFor b (plainOf (scheduleOf key) file number) before) e in
-      let all = ap length bytes ∙ length-append (addStream k 0 (bodyOf file number)) (drop n before) in
-      omega (arith, length-stream k 0 (bodyOf file number))
+      length-range first count (plainOf (scheduleOf key) file number)
+      (omega (arith, length-stream k 0 (bodyOf file number), opened-within))
+      ∙ sym opened-count
+
+  shape : after ≡ plainRange (scheduleOf key) file number first count ++ drop n before
+  unfolding writtenFor
+  shape = o .bytes
+
+  -- they stand at the buffer's front
+  pub opened-front : take n after ≡ plainRange (scheduleOf key) file number first count
+  opened-front = ap (take n) shape ∙ take-at _ (drop n before) n size
+
+  pub opened-rest : drop n after ≡ drop n before
+  opened-rest = ap (drop n) shape ∙ drop-at (plainRange (scheduleOf key) file number first count) (drop n before) n size
+
+  fits : n ≤ length after
+  fits =
+      let all = ap length shape ∙ length-append (plainRange (scheduleOf key) file number first count) (drop n before) in
+      omega (arith, size)
+
+-- whatever was answered: bytes that are given lie within the buffer
+pub opens-fits : (key file number : List ℕ) (first count : ℕ) (before after : List ℕ) (a : Answer)
+    → Opens key file number first count before a after → (n : ℕ) → a ≡ gives n → n ≤ length after
+opens-fits key file number first count before after a o n e =
+    fits key file number first count before after n (subst (λ (b : Answer). Opens key file number first count before b after) e o)

@@ -30,14 +30,14 @@ prefix-put archive number ea en {m} {r} {xs} {ys} p q =
     ∙ ap (λ (l : List ℕ). (archive ++ number) ++ l) (drop-of-length-le (replicate 12 0) past)
     ∙ append-nil (archive ++ number)
 
--- counter mode over the copy of a body at the front of a buffer. The code says the body's length as k
-pub decrypted : (s : Schedule) (prefix body before out after : List ℕ) (k r : ℕ) → goodRounds (s .rounds) ≡ true → k ≡ length body
-    → length body ≤ length before → out ≡ overwritten body before → Applied s prefix (take k out) r after
-    → after ++ drop k out ≡ addStream (keystream s prefix) 0 body ++ drop (length body) before
-decrypted s prefix body before out after k r g ek room eo applied =
-    let rest : List ℕ = drop (length body) before in
-    let copied : out ≡ body ++ rest = eo ∙ overwritten-front body before room in
-    let bytes : take k out ≡ body = ap (take k) copied ∙ take-at body rest k (sym ek) in
+-- counter mode over the copy of a part of a body at the front of a buffer. The code says the part's length as k
+pub decrypted : (s : Schedule) (prefix : List ℕ) (first : ℕ) (sealed before out after : List ℕ) (k r : ℕ) → goodRounds (s .rounds) ≡ true
+    → k ≡ length sealed → length sealed ≤ length before → out ≡ overwritten sealed before → Applied s prefix first (take k out) r after
+    → after ++ drop k out ≡ addStream (keystream s prefix) first sealed ++ drop (length sealed) before
+decrypted s prefix first sealed before out after k r g ek room eo applied =
+    let rest : List ℕ = drop (length sealed) before in
+    let copied : out ≡ sealed ++ rest = eo ∙ overwritten-front sealed before room in
+    let bytes : take k out ≡ sealed = ap (take k) copied ∙ take-at sealed rest k (sym ek) in
     ap₂ (λ (u v : List ℕ). u ++ v)
-    (applied .bytes ∙ ctr-done s prefix (take k out) g ∙ ap (addStream (keystream s prefix) 0) bytes)
-    (ap (drop k) copied ∙ drop-at body rest k (sym ek))
+    (applied .bytes ∙ ctr-done s prefix first (take k out) g ∙ ap (addStream (keystream s prefix) first) bytes)
+    (ap (drop k) copied ∙ drop-at sealed rest k (sym ek))

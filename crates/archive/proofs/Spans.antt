@@ -8,7 +8,7 @@ use Prim.Native.Nat.{ℕ}
 use native.Mathlib.Omega.{arith}
 use lib.ListN.{length}
 use Rattle.refusals.specs.Cases.{firstOf, positive}
-use Rattle.refusals.specs.Answers.{Answer, answer, partFor, writtenFor}
+use Rattle.refusals.specs.Answers.{Answer, refused, answer, partFor, writtenFor}
 use Rattle.refusals.specs.Shared.{keyCases}
 use Rattle.refusals.proofs.Answers.{answer-gives, refusal-is}
 use Rattle.refusals.proofs.Cases.{first-alike, positive-append}
@@ -22,9 +22,9 @@ use Rattle.directory.specs.Check.{directoryCasesBy}
 use Rattle.directory.specs.EarlyEnd.{fullIndexOf, fullSearchCases}
 use Rattle.directory.proofs.Spans.{same-span, mixed-span}
 use Rattle.archive.specs.Check.{keyCheck, fileCasesBy, checkCases, checkCasesBy}
-use Rattle.archive.specs.EarlyEnd.{fullFindCases, fullBodyOf, fullOpenCases, fullPlainOf}
+use Rattle.archive.specs.EarlyEnd.{fullFindCases, fullJobSize, fullOpenCases, fullOpenOf, fullPlainRange}
 use Rattle.archive.specs.Find.{bodyAt}
-use Rattle.archive.specs.Open.{plainOf}
+use Rattle.archive.specs.Open.{plainRange, openOf}
 use Rattle.archive.specs.Spans.{SameSpanArchives, AllRefuse, MixedSpanArchives}
 use Rattle.archive.proofs.Accepted.{accepted-directory, accepted-directory-by}
 use Rattle.archive.proofs.Checking.{check-positive}
@@ -54,9 +54,10 @@ module _ (o p : List ℕ → ℕ) (key file : List ℕ) where
     unfolding fullFindCases fullSearchCases positive
     find-positive order = positive-append (checkCasesBy order key file) _ (check-positive order key file) refl
 
-    open-alike : (room : ℕ) → firstOf (fullOpenCases o key file number room) ≡ firstOf (fullOpenCases p key file number room)
+    open-alike : (first count room : ℕ)
+        → firstOf (fullOpenCases o key file number first count room) ≡ firstOf (fullOpenCases p key file number first count room)
     unfolding fullOpenCases
-    open-alike room =
+    open-alike first count room =
         first-alike (fullFindCases o key file number) (fullFindCases p key file number) _ _ (find-positive o) (find-positive p) find-alike
         (λ z. refl)
 
@@ -68,16 +69,28 @@ same-span-archives key file number held one =
     let checked = ap (λ (n : ℕ). answer n (countOf file)) judged in
     let full = unchanged-archives key file number held in
     let found = ap (λ (n : ℕ). answer n (fullIndexOf (directoryOf file) number)) (find-alike orderOf jobNumber key file number judged) in
-    let opened = ap (λ (n : ℕ). answer n (length (fullBodyOf file number)))
-    (open-alike orderOf jobNumber key file number judged (length held)) in
+    let opened : (first count : ℕ)
+    → fullOpenOf orderOf key file number first count (length held) ≡ fullOpenOf jobNumber key file number first count (length held) =
+    λ first count. ap (λ (n : ℕ). answer n count) (open-alike orderOf jobNumber key file number judged first count (length held))
+    in
+    let written : (first count : ℕ)
+    → writtenFor (fullOpenOf orderOf key file number first count (length held))
+    (fullPlainRange (scheduleOf key) file number first count) held
+    ≡ writtenFor (fullOpenOf jobNumber key file number first count (length held))
+    (fullPlainRange (scheduleOf key) file number first count) held =
+    λ first count. ap (λ (a : Answer). writtenFor a (fullPlainRange (scheduleOf key) file number first count) held) (opened first count)
+    in
+    let size : ℕ = fullJobSize file number in
     record {
       checking = checked;
       directory = ap (λ (a : Answer). partFor a (λ (n : ℕ). directoryOf file)) checked;
       jobs = record {
         finding = full .finding ∙ found;
         body = full .body ∙ ap (λ (a : Answer). partFor a (bodyAt file)) found;
-        opening = full .opening ∙ opened;
-        bytes = full .bytes ∙ ap (λ (a : Answer). writtenFor a (fullPlainOf (scheduleOf key) file number) held) opened;
+        opening = λ first count. full .opening first count ∙ opened first count;
+        bytes = λ first count. full .bytes first count ∙ written first count;
+        whole = full .whole ∙ opened 0 size;
+        wholeBytes = full .wholeBytes ∙ written 0 size;
       };
     }
 
@@ -89,14 +102,17 @@ unfolding partFor writtenFor
 all-refuse n key file number held e h =
     let checked = sym (refusal-is n (firstOf (checkCases key file)) (countOf file) e h) in
     let found = sym (find-refused key file number n e h) in
-    let opened = sym (opens-refused key file number held n e h .answered) in
+    let opened : (first count : ℕ) → openOf key file number first count (length held) ≡ refused n =
+    λ first count. sym (opens-refused key file number first count held n e h .answered)
+    in
     record {
       checking = checked;
       directory = ap (λ (a : Answer). partFor a (λ (i : ℕ). directoryOf file)) checked;
       finding = found;
       body = ap (λ (a : Answer). partFor a (bodyAt file)) found;
       opening = opened;
-      bytes = ap (λ (a : Answer). writtenFor a (plainOf (scheduleOf key) file number) held) opened;
+      bytes = λ first count.
+          ap (λ (a : Answer). writtenFor a (plainRange (scheduleOf key) file number first count) held) (opened first count);
     }
 
 pub mixed-span-archives : MixedSpanArchives

@@ -25,6 +25,7 @@ use Rattle.archive.specs.Open.{prefixOf, underKeystream}
 use Rattle.archive.specs.Theorems.{bodies, SoundArchives, AcceptedArchives, OpeningXors}
 use Rattle.archive.proofs.Checking.{check-directory}
 use Rattle.archive.proofs.Accepted.{accepted-directory, accepted-entries}
+use Rattle.archive.proofs.Opening.{range-plain}
 
 module _ (file : List ℕ) (sound : Sound (directoryOf file) (directoryEnd file) (bodiesEnd file)) where
   abbrev from : ℕ → ℕ
@@ -69,4 +70,5 @@ opening-xors s archive number bytes =
       size = length-stream k 0 bytes;
       byte = λ j l. stream-at k 0 bytes j l ∙ ap (λ (n : ℕ). getD bytes j 0 ⊕ k n) (zero-add j);
       again = stream-twice k 0 bytes;
+      range = range-plain s archive number bytes;
     }

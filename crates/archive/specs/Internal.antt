@@ -10,11 +10,12 @@ use Rattle.refusals.specs.Answers.{Answer, answer, writtenFor}
 use Rattle.octets.specs.Parts.{liesAt}
 use Rattle.circuit.specs.declared.Schedule.{Schedule}
 use Rattle.expansion.specs.KeySchedule.{scheduleOf}
+use Rattle.ctr.specs.Counter.{keystream, addStream}
 use Rattle.header.specs.Fields.{directoryOf}
 use Rattle.directory.specs.Search.{indexOf}
 use Rattle.archive.specs.Check.{checkCases}
 use Rattle.archive.specs.Find.{numberCases, bodyStart, bodyAt}
-use Rattle.archive.specs.Open.{bodyOf, plainOf, roomCases}
+use Rattle.archive.specs.Open.{jobSize, rangeOf, plainRange, rangeCases}
 use Rattle.archive.specs.declared.Admitted.{Admitted}
 
 -- the whole check of key and file, with which every public call begins: its number, and the key's schedule
@@ -31,8 +32,13 @@ pub record BodyPart (file : RefT (List ℕ)) (i : ℕ) (r : RefT (List ℕ)) : T
   pub bytes : now r ≡ bodyAt (now file) i
   pub place : bodyStart (now file) i ≤ length (now file) → liesAt file (bodyStart (now file) i) r
 
--- opening a job of an accepted file under a schedule: the cases of the number and of the buffer are left
-pub record OpensJob (s : Schedule) (file number before : List ℕ) (a : Answer) (after : List ℕ) : Type 0 where
+-- opening a range of a body under a schedule and the prefix of its counter blocks: the cases of the range and of the buffer are left
+pub record OpensBody (s : Schedule) (prefix body : List ℕ) (first count : ℕ) (before : List ℕ) (a : Answer) (after : List ℕ) : Type 0 where
+  pub answered : a ≡ answer (firstOf (rangeCases (length body) first count (length before))) count
+  pub bytes : after ≡ writtenFor a (addStream (keystream s prefix) first (rangeOf first count body)) before
+
+-- opening a range of a job of an accepted file under a schedule: the cases of the number come first
+pub record OpensJob (s : Schedule) (file number : List ℕ) (first count : ℕ) (before : List ℕ) (a : Answer) (after : List ℕ) : Type 0 where
   pub answered : a
-      ≡ answer (firstOf (numberCases file number ++ roomCases (length (bodyOf file number)) (length before))) (length (bodyOf file number))
-  pub bytes : after ≡ writtenFor a (plainOf s file number) before
+      ≡ answer (firstOf (numberCases file number ++ rangeCases (jobSize file number) first count (length before))) count
+  pub bytes : after ≡ writtenFor a (plainRange s file number first count) before

@@ -1,6 +1,7 @@
 pub mod Check
 pub mod Find
 pub mod Open
+pub mod Ranges
 pub mod Internal
 pub mod Theorems
 pub mod EarlyEnd

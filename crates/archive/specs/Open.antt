@@ -1,12 +1,14 @@
 -- Opening a job (01, The dryer archive): "A body is its plain bytes xor the forward sealing of counter blocks: archive number (4 bytes),
 -- the eight digits, block index", that is counter mode with the archive number and the digits as prefix. "Opening writes the plain bytes at
--- the front of a lent buffer, answers how many, and leaves the rest of the buffer unaltered"; its refusals are those of finding, and 20.
+-- the front of a lent buffer, answers how many, and leaves the rest of the buffer unaltered". It takes a range of the job (02, f): "Opening
+-- shall take a first byte and a byte count within the job, and writes and counts those plain bytes only." Its refusals are those of finding,
+-- then "26, first byte plus count, as whole numbers, passes the job's length", then 20, which "measures the range".
 -- Assumes nothing.
 use mathlib.Core.Path.{_≡_}
 use mathlib.Core.List.{List, [], _∷_, _++_}
-use Prim.Native.Nat.{ℕ}
+use Prim.Native.Nat.{ℕ, _+_}
 use lib.Dec.{ltb}
-use lib.ListN.{length}
+use lib.ListN.{length, take, drop}
 use Rattle.refusals.specs.Cases.{Case, when, firstOf}
 use Rattle.refusals.specs.Answers.{Answer, refused, gives, answer, writtenFor}
 use Rattle.circuit.specs.declared.Schedule.{Schedule}
@@ -33,24 +35,38 @@ bodyOf file number = bodyAt file (indexOf (directoryOf file) number)
 abbrev pub plainOf : Schedule → List ℕ → List ℕ → List ℕ
 plainOf s file number = underKeystream s (archiveNumber file) number (bodyOf file number)
 
--- the case of a body of `size` bytes that does not fit into a buffer of `room`
-unfoldable pub roomCases : ℕ → ℕ → List Case
-roomCases size room = when (ltb room size) 20 ∷ []
+-- how many there are of either
+abbrev pub jobSize : List ℕ → List ℕ → ℕ
+jobSize file number = length (bodyOf file number)
 
--- the cases of opening
-unfoldable pub openCases : List ℕ → List ℕ → List ℕ → ℕ → List Case
-openCases key file number room = findCases key file number ++ roomCases (length (bodyOf file number)) room
+-- `count` bytes from byte `first` on, counted from 0
+abbrev pub rangeOf : ℕ → ℕ → List ℕ → List ℕ
+rangeOf first count bytes = take count (drop first bytes)
 
--- what opening answers: how many plain bytes there are
-abbrev pub openOf : List ℕ → List ℕ → List ℕ → ℕ → Answer
-openOf key file number room = answer (firstOf (openCases key file number room)) (length (bodyOf file number))
+-- the plain bytes of a range of the job
+abbrev pub plainRange : Schedule → List ℕ → List ℕ → ℕ → ℕ → List ℕ
+plainRange s file number first count = rangeOf first count (plainOf s file number)
+
+-- the cases of a range of a job of `size` bytes, for a buffer of `room`: it passes the job's end; it does not fit into the buffer
+unfoldable pub rangeCases : ℕ → ℕ → ℕ → ℕ → List Case
+rangeCases size first count room = when (ltb size (first + count)) 26 ∷ when (ltb room count) 20 ∷ []
+
+-- the cases of opening a range into a buffer of `room` bytes
+unfoldable pub openCases : List ℕ → List ℕ → List ℕ → ℕ → ℕ → ℕ → List Case
+openCases key file number first count room =
+    findCases key file number ++ rangeCases (jobSize file number) first count room
+
+-- what opening answers: how many plain bytes the range has
+abbrev pub openOf : List ℕ → List ℕ → List ℕ → ℕ → ℕ → ℕ → Answer
+openOf key file number first count room = answer (firstOf (openCases key file number first count room)) count
 
 -- the answer that a value of `Opened` is
 abbrev pub openedAs : Opened → Answer
 openedAs (Bytes n) = gives n
 openedAs (Refused n) = refused n
 
--- the contract of opening: a is its answer, and `after` what stands in the buffer that held `before`
-pub record Opens (key file number before : List ℕ) (a : Answer) (after : List ℕ) : Type 0 where
-  pub answered : a ≡ openOf key file number (length before)
-  pub bytes : after ≡ writtenFor a (plainOf (scheduleOf key) file number) before
+-- the contract of opening a range: a is its answer, and `after` what stands in the buffer that held `before`. A whole job is the range of
+-- `jobSize` bytes from byte 0 on; specs/Ranges has what that comes to
+pub record Opens (key file number : List ℕ) (first count : ℕ) (before : List ℕ) (a : Answer) (after : List ℕ) : Type 0 where
+  pub answered : a ≡ openOf key file number first count (length before)
+  pub bytes : after ≡ writtenFor a (plainRange (scheduleOf key) file number first count) before

@@ -15,7 +15,7 @@ use Rattle.jobnumber.specs.Number.{jobNumber}
 use Rattle.directory.specs.Spans.{OneSpan, BothSpans}
 use Rattle.archive.specs.Check.{checkCasesBy, checkOf, directoryGiven}
 use Rattle.archive.specs.Find.{findOf, bodyGiven}
-use Rattle.archive.specs.Open.{plainOf, openOf}
+use Rattle.archive.specs.Open.{plainRange, openOf}
 use Rattle.archive.specs.EarlyEnd.{AsFull}
 
 -- what checking answered before
@@ -33,14 +33,15 @@ pub record AsBefore (key file number held : List ℕ) : Type 0 where
 abbrev pub SameSpanArchives : Type 0
 SameSpanArchives = (key file number held : List ℕ) → OneSpan (directoryOf file) → AsBefore key file number held
 
--- every call refuses with n, hands back no byte and alters none
+-- every call refuses with n, hands back no byte and alters none; opening so of every range, a whole job being one of them
 pub record AllRefuse (n : ℕ) (key file number held : List ℕ) : Type 0 where
   pub checking : checkOf key file ≡ refused n
   pub directory : directoryGiven key file ≡ []
   pub finding : findOf key file number ≡ refused n
   pub body : bodyGiven key file number ≡ []
-  pub opening : openOf key file number (length held) ≡ refused n
-  pub bytes : writtenFor (openOf key file number (length held)) (plainOf (scheduleOf key) file number) held ≡ held
+  pub opening : (first count : ℕ) → openOf key file number first count (length held) ≡ refused n
+  pub bytes : (first count : ℕ)
+      → writtenFor (openOf key file number first count (length held)) (plainRange (scheduleOf key) file number first count) held ≡ held
 
 -- those of one that was accepted lie in both spans
 abbrev pub MixedSpanArchives : Type 0

@@ -12,14 +12,14 @@ use Rattle.refusals.specs.Answers.{gives}
 use Rattle.refusals.specs.Shared.{keyCases}
 use Rattle.circuit.specs.declared.Schedule.{Schedule}
 use Rattle.expansion.specs.KeySchedule.{scheduleOf}
-use Rattle.ctr.specs.Counter.{keystream}
+use Rattle.ctr.specs.Counter.{keystream, addStream}
 use Rattle.header.specs.Fields.{countOf, directoryEnd, directoryOf, bodiesEnd}
 use Rattle.header.specs.Cases.{headerCases}
 use Rattle.directory.specs.Entries.{entries}
 use Rattle.directory.specs.Sound.{Sound}
 use Rattle.archive.specs.Check.{keyCheck, checkOf}
 use Rattle.archive.specs.Find.{bodyAt}
-use Rattle.archive.specs.Open.{prefixOf, underKeystream}
+use Rattle.archive.specs.Open.{prefixOf, underKeystream, rangeOf}
 
 -- the bodies of the first n jobs, in a row
 unfoldable pub bodies : List ℕ → ℕ → List ℕ
@@ -41,12 +41,15 @@ AcceptedArchives = (key file : List ℕ) → firstOf (keyCases (length key)) ≡
     → firstOf (headerCases (length key) (keyCheck (scheduleOf key)) file) ≡ 0
     → Sound (directoryOf file) (directoryEnd file) (bodiesEnd file) → checkOf key file ≡ gives (countOf file)
 
--- opening is exclusive-or with the keystream, so that doing it again gives the bytes again; there are as many plain bytes as sealed ones
+-- opening is exclusive-or with the keystream, so that doing it again gives the bytes again; there are as many plain bytes as sealed ones,
+-- and a range of them is that range of the sealed ones, xor the keystream from its first byte on: no other byte of either is needed
 pub record OpeningXor (s : Schedule) (archive number bytes : List ℕ) : Type 0 where
   pub size : length (underKeystream s archive number bytes) ≡ length bytes
   pub byte : (j : ℕ) → j < length bytes
       → getD (underKeystream s archive number bytes) j 0 ≡ getD bytes j 0 ⊕ keystream s (prefixOf archive number) j
   pub again : underKeystream s archive number (underKeystream s archive number bytes) ≡ bytes
+  pub range : (first count : ℕ) → rangeOf first count (underKeystream s archive number bytes)
+      ≡ addStream (keystream s (prefixOf archive number)) first (rangeOf first count bytes)
 
 abbrev pub OpeningXors : Type 0
 OpeningXors = (s : Schedule) (archive number bytes : List ℕ) → OpeningXor s archive number bytes

@@ -1,5 +1,5 @@
-// The archive: checking it, its directory, finding a job, its sealed body, and opening it. Each public call begins with the whole check of
-// key and file, which prepares the key once. No call copies the file.
+// The archive: checking it, its directory, finding a job, its sealed body, and opening it, a range of it or the whole. Each public call
+// makes the whole check of key and file once, which prepares the key. No call copies the file.
 use circuit::Schedule;
 use directory::Found;
 use expansion::Outcome;
@@ -8,7 +8,8 @@ use octets::u32_at;
 ghost use mathlib.Core.Path.{_≡_};
 ghost use mathlib.Core.Bool.{true};
 ghost use mathlib.Core.List.{_++_};
-ghost use Prim.Native.Nat.{_≤_};
+ghost use Prim.Native.Nat.{_+_, _≤_};
+ghost use lib.Dec.{ltb};
 ghost use lib.ListN.{length, drop};
 ghost use Rattle.refusals.specs.Cases.{firstOf};
 ghost use Rattle.refusals.specs.Shared.{goodRounds};
@@ -16,8 +17,8 @@ ghost use Rattle.ctr.specs.Counter.{keystream, addStream};
 ghost use Rattle.directory.specs.Search.{foundAs};
 ghost use Rattle.archive.specs.Check.{keyCheck, fileCases, checkOf, checkedAs, GivesDirectory};
 ghost use Rattle.archive.specs.Find.{Finds, GivesBody};
-ghost use Rattle.archive.specs.Open.{prefixOf, openedAs, Opens};
-ghost use Rattle.archive.specs.Internal.{Admits, BodyPart, OpensJob, lookupOf};
+ghost use Rattle.archive.specs.Open.{prefixOf, jobSize, openedAs, Opens};
+ghost use Rattle.archive.specs.Internal.{Admits, BodyPart, OpensBody, OpensJob, lookupOf};
 
 // Checking's answer: the job count, or a refusal's number.
 pub enum Checked {
@@ -157,45 +158,87 @@ fn prefix(archive: &[u8], number: &[u8]) -> [u8; 12]
     bytes
 }
 
-// Writes the plain bytes of a body to the front of a buffer that has room for them.
-fn decrypt(schedule: Schedule, prefix: [u8; 12], body: &[u8], out: &mut [u8])
-    requires { ⌜ (goodRounds (schedule .rounds) ≡ true) × (length (now body) ≤ length (now out)) ⌝ }
+// Writes the plain bytes of a part of a body, which begins at byte `first` of it, to the front of a buffer that has room for them.
+fn decrypt(schedule: Schedule, prefix: [u8; 12], first: usize, sealed: &[u8], out: &mut [u8])
+    requires { ⌜ (goodRounds (schedule .rounds) ≡ true) × (length (now sealed) ≤ length (now out)) ⌝ }
     ensures { λ _. ⌜ now (out .exit)
-        ≡ addStream (keystream schedule prefix) 0 (now (body .entry)) ++ drop (length (now (body .entry))) (now (out .entry)) ⌝ }
+        ≡ addStream (keystream schedule prefix) first (now (sealed .entry)) ++ drop (length (now (sealed .entry))) (now (out .entry)) ⌝ }
 {
-    octets::copy(body, out);
-    let n = body.len();
-    ctr::apply(schedule, prefix, &mut out[0..n]);
+    octets::copy(sealed, out);
+    let n = sealed.len();
+    ctr::apply(schedule, prefix, first, &mut out[0..n]);
 }
 
-// Opens a job of a file that passed its checks.
-fn open_job(schedule: Schedule, file: &[u8], number: &[u8], out: &mut [u8]) -> Opened
+// Whether a range passes the end of a job of `size` bytes. The sum of `first` and `count` need not fit a usize, so it is not made.
+fn is_past(size: usize, first: usize, count: usize) -> bool
+    ensures { λ r. ⌜ r ≡ ltb size (first + count) ⌝ }
+{
+    if size < first {
+        return true;
+    }
+    size - first < count
+}
+
+// Opens a range of a body.
+fn open_body(
+    schedule: Schedule,
+    prefix: [u8; 12],
+    body: &[u8],
+    first: usize,
+    count: usize,
+    out: &mut [u8],
+) -> Opened
+    requires { ⌜ goodRounds (schedule .rounds) ≡ true ⌝ }
+    ensures { λ r. ⌜ OpensBody schedule prefix (now (body .entry)) first count (now (out .entry)) (openedAs r) (now (out .exit)) ⌝ }
+{
+    let size = body.len();
+    if is_past(size, first, count) {
+        return Opened::Refused(26);
+    }
+    if out.len() < count {
+        return Opened::Refused(20);
+    }
+    decrypt(schedule, prefix, first, part(body, first, count), out);
+    Opened::Bytes(count)
+}
+
+// Opens a range of a job of a file that passed its checks.
+fn open_job(
+    schedule: Schedule,
+    file: &[u8],
+    number: &[u8],
+    first: usize,
+    count: usize,
+    out: &mut [u8],
+) -> Opened
     requires { ⌜ (goodRounds (schedule .rounds) ≡ true) × (20 ≤ length (now file)) ⌝ }
-    ensures { λ r. ⌜ OpensJob schedule (now (file .entry)) (now (number .entry)) (now (out .entry)) (openedAs r) (now (out .exit)) ⌝ }
+    ensures { λ r. ⌜ OpensJob schedule (now (file .entry)) (now (number .entry)) first count (now (out .entry)) (openedAs r)
+        (now (out .exit)) ⌝ }
 {
     let f = lookup(file, number);
     match f {
         Found::Refused(n) => Opened::Refused(n),
-        Found::At(i) => {
-            let b = body_at(file, i);
-            let n = b.len();
-            if out.len() < n {
-                return Opened::Refused(20);
-            }
-            decrypt(
-                schedule,
-                prefix(header::archive_number(file), number),
-                b,
-                out,
-            );
-            Opened::Bytes(n)
-        }
+        Found::At(i) => open_body(
+            schedule,
+            prefix(header::archive_number(file), number),
+            body_at(file, i),
+            first,
+            count,
+            out,
+        ),
     }
 }
 
-// Opens a job: its plain bytes at the front of a buffer.
-pub fn open(key: &[u8], file: &[u8], number: &[u8], out: &mut [u8]) -> Opened
-    ensures { λ r. ⌜ Opens (now (key .entry)) (now (file .entry)) (now (number .entry)) (now (out .entry))
+// Opens a range of a job: `count` plain bytes from byte `first` on, at the front of a buffer.
+pub fn open_range(
+    key: &[u8],
+    file: &[u8],
+    number: &[u8],
+    first: usize,
+    count: usize,
+    out: &mut [u8],
+) -> Opened
+    ensures { λ r. ⌜ Opens (now (key .entry)) (now (file .entry)) (now (number .entry)) first count (now (out .entry))
         (openedAs r) (now (out .exit)) ⌝ }
 {
     let a = admit(key, file);
@@ -203,5 +246,24 @@ pub fn open(key: &[u8], file: &[u8], number: &[u8], out: &mut [u8]) -> Opened
     if n != 0 {
         return Opened::Refused(n);
     }
-    open_job(a.schedule, file, number, out)
+    open_job(a.schedule, file, number, first, count, out)
+}
+
+// How many bytes the job of a number has, in any file; 0 where the search comes to no entry.
+fn job_size(file: &[u8], number: &[u8]) -> usize
+    ensures { λ r. ⌜ r ≡ jobSize (now (file .entry)) (now (number .entry)) ⌝ }
+{
+    let f = directory::search(header::directory(file), number);
+    match f {
+        Found::Refused(_) => 0,
+        Found::At(i) => body_at(file, i).len(),
+    }
+}
+
+// Opens a whole job: the range of all its bytes.
+pub fn open(key: &[u8], file: &[u8], number: &[u8], out: &mut [u8]) -> Opened
+    ensures { λ r. ⌜ Opens (now (key .entry)) (now (file .entry)) (now (number .entry))
+        0 (jobSize (now (file .entry)) (now (number .entry))) (now (out .entry)) (openedAs r) (now (out .exit)) ⌝ }
+{
+    open_range(key, file, number, 0, job_size(file, number), out)
 }

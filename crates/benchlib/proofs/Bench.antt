@@ -22,7 +22,7 @@ refused key prefix xs r e h =
 
 -- under a good key it is counter mode under the key's schedule
 pub ready : (key prefix first xs ys : List ℕ) (s : Schedule) (r : ℕ) → goodKey (length key) ≡ true → s ≡ scheduleOf key
-    → first ≡ twelve prefix → Applied s first xs r ys → AppliedUnderKey key prefix xs r ys
+    → first ≡ twelve prefix → Applied s first 0 xs r ys → AppliedUnderKey key prefix xs r ys
 unfolding keyCtrBytes ctrBytes
 ready key prefix first xs ys s r good same cut applied =
     let none = key-0 (length key) good in
@@ -31,7 +31,7 @@ ready key prefix first xs ys s r good same cut applied =
       number = applied .number ∙ ap (λ (t : Schedule). firstOf (roundsCases (t .rounds))) same ∙ rounds ∙ sym none;
       bytes =
           applied .bytes
-          ∙ ap (λ (t : Schedule). ctrBytes t first xs) same
-          ∙ ap (λ (p : List ℕ). ctrBytes (scheduleOf key) p xs) cut
+          ∙ ap (λ (t : Schedule). ctrBytes t first 0 xs) same
+          ∙ ap (λ (p : List ℕ). ctrBytes (scheduleOf key) p 0 xs) cut
           ∙ rw (rounds, none);
     }

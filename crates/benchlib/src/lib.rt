@@ -1,7 +1,14 @@
-// Counter mode under a key, exported for the bench of host/ alone.
+// Calls that `libaria.a` does not export, for the bench of host/ and the tests alone: counter mode under a key, and checking an archive and
+// opening a job of it, with one number for the answer.
+use archive::Checked;
+use archive::Opened;
 use expansion::Outcome;
 ghost use mathlib.Core.Path.{_≡_};
+ghost use Rattle.refusals.specs.Cases.{firstOf};
+ghost use Rattle.archive.specs.Check.{checkCases};
+ghost use Rattle.archive.specs.Open.{jobSize, openedAs};
 ghost use Rattle.benchlib.specs.Bench.{twelve, AppliedUnderKey};
+ghost use Rattle.benchlib.specs.Opening.{numberIn, OpenedAsNumber};
 
 // The first twelve bytes, zero where there are fewer.
 fn first_twelve(bytes: &[u8]) -> [u8; 12]
@@ -23,5 +30,52 @@ pub extern "C" fn bench_ctr(key: &[u8], prefix: &[u8], run: &mut [u8]) -> u32
         return expansion::number_of(outcome);
     };
     let schedule = prepared.schedule;
-    ctr::apply(schedule, first_twelve(prefix), run)
+    ctr::apply(schedule, first_twelve(prefix), 0, run)
+}
+
+// The whole check of key and file: 0, or the refusal.
+#[no_mangle]
+pub extern "C" fn bench_check(key: &[u8], file: &[u8]) -> u32
+    ensures { λ r. ⌜ r ≡ firstOf (checkCases (now (key .entry)) (now (file .entry))) ⌝ }
+{
+    let checked = archive::check(key, file);
+    match checked {
+        Checked::Jobs(_) => 0,
+        Checked::Refused(n) => n,
+    }
+}
+
+// The refusal of an opening, or 0.
+fn number_of(opened: Opened) -> u32
+    ensures { λ r. ⌜ r ≡ numberIn (openedAs opened) ⌝ }
+{
+    match opened {
+        Opened::Bytes(_) => 0,
+        Opened::Refused(n) => n,
+    }
+}
+
+// A whole job into the front of a buffer: 0, or the refusal.
+#[no_mangle]
+pub extern "C" fn bench_open(key: &[u8], file: &[u8], number: &[u8], out: &mut [u8]) -> u32
+    ensures { λ r. ⌜ OpenedAsNumber (now (key .entry)) (now (file .entry)) (now (number .entry))
+        0 (jobSize (now (file .entry)) (now (number .entry))) (now (out .entry)) r (now (out .exit)) ⌝ }
+{
+    number_of(archive::open(key, file, number, out))
+}
+
+// A range of a job into the front of a buffer: 0, or the refusal.
+#[no_mangle]
+pub extern "C" fn bench_open_range(
+    key: &[u8],
+    file: &[u8],
+    number: &[u8],
+    first: usize,
+    count: usize,
+    out: &mut [u8],
+) -> u32
+    ensures { λ r. ⌜ OpenedAsNumber (now (key .entry)) (now (file .entry)) (now (number .entry)) first count
+        (now (out .entry)) r (now (out .exit)) ⌝ }
+{
+    number_of(archive::open_range(key, file, number, first, count, out))
 }

@@ -10,11 +10,11 @@ use Rattle.refusals.proofs.Shared.{rounds-0, rounds-3}
 use Rattle.circuit.specs.declared.Schedule.{Schedule}
 use Rattle.ctr.specs.Counter.{keystream, addStream, ctrBytes}
 
-pub ctr-done : (s : Schedule) (prefix xs : List ℕ) → goodRounds (s .rounds) ≡ true
-    → ctrBytes s prefix xs ≡ addStream (keystream s prefix) 0 xs
-unfolding ctrBytes
-ctr-done s prefix xs e = ap (λ (n : ℕ). unlessRefused n (addStream (keystream s prefix) 0 xs) xs) (rounds-0 (s .rounds) e)
+module _ (s : Schedule) (prefix : List ℕ) (first : ℕ) (xs : List ℕ) where
+  pub ctr-done : goodRounds (s .rounds) ≡ true → ctrBytes s prefix first xs ≡ addStream (keystream s prefix) first xs
+  unfolding ctrBytes
+  ctr-done e = ap (λ (n : ℕ). unlessRefused n (addStream (keystream s prefix) first xs) xs) (rounds-0 (s .rounds) e)
 
-pub ctr-refused : (s : Schedule) (prefix xs : List ℕ) → goodRounds (s .rounds) ≡ false → ctrBytes s prefix xs ≡ xs
-unfolding ctrBytes
-ctr-refused s prefix xs e = ap (λ (n : ℕ). unlessRefused n (addStream (keystream s prefix) 0 xs) xs) (rounds-3 (s .rounds) e)
+  pub ctr-refused : goodRounds (s .rounds) ≡ false → ctrBytes s prefix first xs ≡ xs
+  unfolding ctrBytes
+  ctr-refused e = ap (λ (n : ℕ). unlessRefused n (addStream (keystream s prefix) first xs) xs) (rounds-3 (s .rounds) e)

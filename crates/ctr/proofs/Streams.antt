@@ -51,6 +51,18 @@ module _ (k : ℕ → ℕ) where
   stream-drop i (suc n) [] = refl
   stream-drop i (suc n) (x ∷ xs) = stream-drop (suc i) n xs ∙ ap (λ (m : ℕ). addStream k m (drop n xs)) (further i n)
 
+  -- m bytes from byte n on: the keystream from there on
+  pub stream-part : (i n m : ℕ) (xs : List ℕ) → take m (drop n (addStream k i xs)) ≡ addStream k (i + n) (take m (drop n xs))
+  stream-part i n m xs = ap (take m) (stream-drop i n xs) ∙ stream-take (i + n) m (drop n xs)
+
+  -- a list and one behind it: the keystream goes on
+  pub stream-append : (i : ℕ) (xs ys : List ℕ) → addStream k i (xs ++ ys) ≡ addStream k i xs ++ addStream k (i + length xs) ys
+  unfolding addStream
+  stream-append i [] ys = ap (λ (m : ℕ). addStream k m ys) (sym (add-zero i))
+  stream-append i (x ∷ xs) ys =
+      ap (λ (l : List ℕ). x ⊕ k i ∷ l)
+      (stream-append (suc i) xs ys ∙ ap (λ (m : ℕ). addStream k (suc i) xs ++ addStream k m ys) (further i (length xs)))
+
   -- adding a list whose entries are the keystream's
   pub stream-list : (i : ℕ) (xs ys : List ℕ) → length xs ≤ length ys → ((j : ℕ) → j < length ys → getD ys j 0 ≡ k (i + j))
       → xorBlock xs ys ≡ addStream k i xs
@@ -71,10 +83,7 @@ module _ (k : ℕ → ℕ) where
       let done : take at run ≡ take at all = ap (take at) e ∙ take-at (take at all) (drop at xs) at front in
       let left : drop at run ≡ drop at xs = ap (drop at) e ∙ drop-at (take at all) (drop at xs) at front in
       let part : ys ≡ take m (drop at all) =
-      ey
-      ∙ ap (λ (l : List ℕ). addStream k (i + at) (take m l)) left
-      ∙ sym (stream-take (i + at) m (drop at xs))
-      ∙ ap (take m) (sym (stream-drop i at xs))
+      ey ∙ ap (λ (l : List ℕ). addStream k (i + at) (take m l)) left ∙ sym (stream-part i at m xs)
       in
       ap₂ (λ (u v : List ℕ). u ++ v) done (ap₂ (λ (u v : List ℕ). u ++ v) part (ap (drop m) left))
       ∙ sym (append-assoc (take at all) (take m (drop at all)) (drop m (drop at xs)))

@@ -1,7 +1,8 @@
 -- Counter mode, SP 800-38A section 6.5, with the counter blocks of 01, The dryer archive: "A body is its plain bytes xor the forward
 -- sealing of counter blocks: archive number (4 bytes), the eight digits, block index (4 bytes, from 0). The last block uses as many bytes
 -- as remain." Here the first twelve bytes of a counter block are any prefix. The keystream is defined byte by byte, at every place, so that
--- any part of it has a meaning of its own. Encryption and decryption are the one operation.
+-- a run may begin at any byte of it (02, f: "the keystream step underneath gets a first byte of its own"). Encryption and decryption are the
+-- one operation.
 -- Assumes nothing.
 use mathlib.Core.Path.{_≡_}
 use mathlib.Core.List.{List, [], _∷_, _++_}
@@ -28,12 +29,13 @@ unfoldable pub addStream : (ℕ → ℕ) → ℕ → List ℕ → List ℕ
 addStream k i [] = []
 addStream k i (x ∷ xs) = x ⊕ k i ∷ addStream k (suc i) xs
 
--- the bytes that counter mode leaves: as they were where the schedule is refused
-unfoldable pub ctrBytes : Schedule → List ℕ → List ℕ → List ℕ
-ctrBytes s prefix xs = unlessRefused (firstOf (roundsCases (s .rounds))) (addStream (keystream s prefix) 0 xs) xs
+-- the bytes that counter mode leaves of a run whose first byte is byte `first` of what the keystream is added to: as they were where the
+-- schedule is refused
+unfoldable pub ctrBytes : Schedule → List ℕ → ℕ → List ℕ → List ℕ
+ctrBytes s prefix first xs = unlessRefused (firstOf (roundsCases (s .rounds))) (addStream (keystream s prefix) first xs) xs
 
 -- the contract of counter mode: r is 0, or 3 for a round count that is none of 12, 14 and 16; `after` is what stands in the run that held
--- `before`. A run of any length is good
-pub record Applied (s : Schedule) (prefix before : List ℕ) (r : ℕ) (after : List ℕ) : Type 0 where
+-- `before`. A run of any length, from any first byte on, is good
+pub record Applied (s : Schedule) (prefix : List ℕ) (first : ℕ) (before : List ℕ) (r : ℕ) (after : List ℕ) : Type 0 where
   pub number : r ≡ firstOf (roundsCases (s .rounds))
-  pub bytes : after ≡ ctrBytes s prefix before
+  pub bytes : after ≡ ctrBytes s prefix first before

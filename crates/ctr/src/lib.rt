@@ -1,5 +1,5 @@
-// Counter mode (SP 800-38A, section 6.5) under a key schedule: each byte of a run xor the keystream byte of its place. The keystream is the
-// counter blocks in a row, each encrypted.
+// Counter mode (SP 800-38A, section 6.5) under a key schedule: each byte of a run xor the keystream byte of its place, from any first byte
+// on. The keystream is the counter blocks in a row, each encrypted.
 ghost use mathlib.Core.Path.{_≡_};
 ghost use mathlib.Core.Bool.{true};
 ghost use Prim.Native.Nat.{_+_, _*_, _/_, _%_, _≤_, min};
@@ -90,15 +90,16 @@ fn add_keystream(schedule: Schedule, prefix: [u8; 12], first: usize, run: &mut [
     }
 }
 
-// Counter mode in place; encryption and decryption are the one operation. Answers 0, or 3 for a bad schedule, which leaves the run as it
-// was.
-pub fn apply(schedule: Schedule, prefix: [u8; 12], run: &mut [u8]) -> u32
-    ensures { λ r. ⌜ Applied schedule prefix (now (run .entry)) r (now (run .exit)) ⌝ }
+// Counter mode in place, on a run that begins at byte `first` of what is encrypted or decrypted, which are the one operation; of a whole
+// one `first` is 0. Only the blocks of the keystream that the run touches are made. Answers 0, or 3 for a bad schedule, which leaves the run
+// as it was.
+pub fn apply(schedule: Schedule, prefix: [u8; 12], first: usize, run: &mut [u8]) -> u32
+    ensures { λ r. ⌜ Applied schedule prefix first (now (run .entry)) r (now (run .exit)) ⌝ }
 {
     let number = refusals::rounds(schedule.rounds);
     if number != 0 {
         return number;
     }
-    add_keystream(schedule, prefix, 0, run);
+    add_keystream(schedule, prefix, first, run);
     0
 }

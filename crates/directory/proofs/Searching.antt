@@ -34,7 +34,7 @@ module _ (d number : List ℕ) where
   present h = one-passes _ 19 (ne-eqb _ _ h)
 
   -- the number tells the case
-  missing-is : (n : ℕ) → firstOf (searchCases d number) ≡ n → (n ≡ 0 → ⊥) → (indexOf d number ≡ entries d) × (n ≡ 19)
+  pub missing-is : (n : ℕ) → firstOf (searchCases d number) ≡ n → (n ≡ 0 → ⊥) → (indexOf d number ≡ entries d) × (n ≡ 19)
   missing-is n e h = go (eqb (indexOf d number) (entries d)) refl
     where
       go : (b : Bool) → eqb (indexOf d number) (entries d) ≡ b → (indexOf d number ≡ entries d) × (n ≡ 19)

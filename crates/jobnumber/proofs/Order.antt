@@ -13,7 +13,8 @@ use lib.ListN.{getD, take, drop}
 use lib.Seq.{getD-take, getD-drop}
 use Rattle.refusals.proofs.Booleans.{both-true}
 use Rattle.octets.proofs.Below.{all-each}
-use Rattle.jobnumber.specs.Number.{isDigit, digits, decimalValue, jobNumber, centuryOf, yearOf, serialOf, orderOf}
+use Rattle.decimal.specs.Decimal.{isDigit, decimalValue}
+use Rattle.jobnumber.specs.Number.{digits, jobNumber, centuryOf, yearOf, serialOf, orderOf}
 use Rattle.jobnumber.specs.Order.{ByYear, Spans}
 
 -- ---- eight bytes

@@ -3,27 +3,18 @@
 -- Assumes nothing.
 use mathlib.Core.Bool.{Bool, cond, _&&_}
 use mathlib.Core.List.{List}
-use Prim.Native.Nat.{ℕ, zero, suc, _+_, _*_, _-_}
-use lib.Dec.{leb, ltb, eqb}
-use lib.ListN.{length, getD, drop}
-use Rattle.octets.specs.Below.{allBelow}
-
--- an ASCII digit
-abbrev pub isDigit : ℕ → Bool
-isDigit b = leb 48 b && leb b 57
+use Prim.Native.Nat.{ℕ, _+_, _*_}
+use lib.Dec.{ltb, eqb}
+use lib.ListN.{length, drop}
+use Rattle.decimal.specs.Decimal.{allDigits, decimalValue}
 
 -- the first eight bytes are digits
 unfoldable pub digits : List ℕ → Bool
-digits s = allBelow (λ (k : ℕ). isDigit (getD s k 0)) 8
+digits s = allDigits s 8
 
 -- exactly eight bytes, all digits: what may be asked for
 unfoldable pub isJobNumber : List ℕ → Bool
 isJobNumber s = eqb (length s) 8 && digits s
-
--- the number that the first k digits are
-abbrev pub decimalValue : List ℕ → ℕ → ℕ
-decimalValue s zero = 0
-decimalValue s (suc k) = decimalValue s k * 10 + (getD s k 0 - 48)
 
 -- the number that eight digits are
 abbrev pub jobNumber : List ℕ → ℕ

@@ -6,7 +6,8 @@ use mathlib.Core.Bool.{true, _&&_, _||_}
 use mathlib.Core.List.{List}
 use Prim.Native.Nat.{ℕ, _+_, _*_, _<_, _≤_}
 use lib.Dec.{ltb, eqb}
-use Rattle.jobnumber.specs.Number.{digits, decimalValue, jobNumber, yearOf, serialOf, orderOf}
+use Rattle.decimal.specs.Decimal.{decimalValue}
+use Rattle.jobnumber.specs.Number.{digits, jobNumber, yearOf, serialOf, orderOf}
 
 -- a job number is below another where its year is, or where the years are the same and its other six digits are below
 abbrev pub ByYear : Type 0

@@ -1,31 +1,15 @@
 // Job numbers, at the front of a slice of bytes: whether they are digits, and their order. Every call is total.
-use octets::byte_at;
+use decimal::digit_at;
 ghost use mathlib.Core.Path.{_≡_};
 ghost use Prim.Native.Nat.{_+_, _*_, _-_, _<_};
 ghost use lib.ListN.{getD};
-ghost use Rattle.jobnumber.specs.Number.{isDigit, digits, isJobNumber, jobNumber, centuryOf, orderOf};
-
-fn is_digit(b: usize) -> bool
-    ensures { λ r. ⌜ r ≡ isDigit b ⌝ }
-{
-    if b < 48 {
-        return false;
-    }
-    b <= 57
-}
+ghost use Rattle.jobnumber.specs.Number.{digits, isJobNumber, jobNumber, centuryOf, orderOf};
 
 // Whether the first eight bytes are digits.
 pub fn all_digits(s: &[u8]) -> bool
     ensures { λ r. ⌜ r ≡ digits (now (s .entry)) ⌝ }
 {
-    let mut k: usize = 0;
-    while k < 8 {
-        if !is_digit(byte_at(s, k)) {
-            return false;
-        }
-        k += 1;
-    }
-    true
+    decimal::all_digits(s, 8)
 }
 
 // Whether a job number may be asked for: eight bytes, all digits.
@@ -36,14 +20,6 @@ pub fn is_job_number(s: &[u8]) -> bool
         return false;
     }
     all_digits(s)
-}
-
-// The value of the digit at a place.
-fn digit_at(s: &[u8], at: usize) -> usize
-    ensures { λ r. ⌜ (r ≡ getD (now (s .entry)) at 0 - 48) × (r < 256) ⌝ }
-{
-    let b = byte_at(s, at);
-    if b < 48 { 0 } else { b - 48 }
 }
 
 // The number that the digits at two places are.

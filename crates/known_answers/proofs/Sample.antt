@@ -1,4 +1,4 @@
--- The sample archive's listing and its first job's plain bytes come out of the definitions: one computed test.
+-- The sample archive's listing and what its first job opens to come out of the definitions: one computed test.
 -- Assumes nothing.
 use mathlib.Core.Path.{_≡_, refl}
 use mathlib.Core.Bool.{true}
@@ -23,13 +23,13 @@ use Rattle.jobnumber.specs.Number.{digits, isJobNumber, centuryOf, serialOf, or
 use Rattle.directory.specs.Check.{bodyFrom, ascendsBy, entryCasesBy, restCases, directoryCasesBy}
 use Rattle.directory.specs.Search.{bears, above, endsAt, stopOf, indexOf, searchCases}
 use Rattle.archive.specs.Check.{keyCheck, fileCasesBy, checkCasesBy}
-use Rattle.archive.specs.Find.{bodyAt}
-use Rattle.archive.specs.Open.{prefixOf, underKeystream}
-use Rattle.listing.specs.Decimal.{digitsIn, decimalDigits}
+use Rattle.archive.specs.Find.{bodyAt, numberCases, findCases}
+use Rattle.archive.specs.Open.{prefixOf, underKeystream, rangeCases, openCases}
+use Rattle.decimal.specs.Decimal.{digitsIn, decimalDigits}
 use Rattle.listing.specs.Text.{field, numberLine, jobLine, jobLines, textOf}
 use Rattle.known_answers.specs.Readings.{every, job24000017}
 use Rattle.known_answers.specs.Vectors.{rfcKey}
-use Rattle.known_answers.specs.Sample.{sampleFile, sampleText, samplePlain, sampleReadings}
+use Rattle.known_answers.specs.Sample.{sampleFile, sampleText, samplePlain, gave, refusedBy, sampleReadings}
 
 pub sample-holds : every sampleReadings ≡ true
 unfolding every job24000017 rfcKey sampleFile sampleText samplePlain sampleReadings
@@ -40,5 +40,6 @@ unfolding every job24000017 rfcKey sampleFile sampleText samplePlain sampleReadi
     counterBlock keystream addStream countOf archiveNumber directoryOf frontCases fieldCases headerCases
     entryAt digits isJobNumber centuryOf serialOf orderOf bodyFrom ascendsBy entryCasesBy restCases directoryCasesBy
     bears above endsAt stopOf indexOf searchCases keyCheck fileCasesBy checkCasesBy bodyAt prefixOf underKeystream
+    numberCases findCases rangeCases openCases gave refusedBy
     digitsIn decimalDigits field numberLine jobLine jobLines textOf
 sample-holds = refl

@@ -1,12 +1,14 @@
 -- The archive that docs/FORMAT.md works byte by byte, examples/sample/archive.bin, by the definitions that the contracts cite: what `jobs`
--- prints of it, which is 01's printed example, and what its first job opens to.
+-- prints of it, which is 01's printed example, and what its first job and a range of it open to.
 -- Assumes nothing.
-use mathlib.Core.Bool.{Bool}
+use mathlib.Core.Bool.{Bool, false}
 use mathlib.Core.List.{List, [], _∷_}
 use Prim.Native.Nat.{ℕ}
+use lib.Dec.{eqb}
+use Rattle.refusals.specs.Answers.{Answer, refused, gives}
 use Rattle.octets.specs.Equality.{sameBytes}
 use Rattle.expansion.specs.KeySchedule.{scheduleOf}
-use Rattle.archive.specs.Open.{plainOf}
+use Rattle.archive.specs.Open.{plainOf, plainRange, openOf}
 use Rattle.listing.specs.Listing.{listingText}
 use Rattle.known_answers.specs.Readings.{job24000017}
 use Rattle.known_answers.specs.Vectors.{rfcKey}
@@ -32,8 +34,24 @@ sampleText =
 unfoldable pub samplePlain : List ℕ
 samplePlain = 0x64 ∷ 0x72 ∷ 0x69 ∷ 0x65 ∷ 0x64 ∷ []
 
+-- an answer gives n, or refuses with n
+unfoldable pub gave : ℕ → Answer → Bool
+gave n (gives m) = eqb m n
+gave n (refused m) = false
+
+unfoldable pub refusedBy : ℕ → Answer → Bool
+refusedBy n (gives m) = false
+refusedBy n (refused m) = eqb m n
+
+-- the listing; the whole job; bytes 1 to 3 of it, `rie`; the range of no bytes at its very end, one within it, one that passes its end, and
+-- one within it with a buffer that is a byte short
 unfoldable pub sampleReadings : List Bool
 sampleReadings =
     sameBytes (listingText (rfcKey 16) sampleFile) sampleText
     ∷ sameBytes (plainOf (scheduleOf (rfcKey 16)) sampleFile job24000017) samplePlain
+    ∷ sameBytes (plainRange (scheduleOf (rfcKey 16)) sampleFile job24000017 1 3) (0x72 ∷ 0x69 ∷ 0x65 ∷ [])
+    ∷ gave 0 (openOf (rfcKey 16) sampleFile job24000017 5 0 0)
+    ∷ gave 3 (openOf (rfcKey 16) sampleFile job24000017 1 3 3)
+    ∷ refusedBy 26 (openOf (rfcKey 16) sampleFile job24000017 5 1 8)
+    ∷ refusedBy 20 (openOf (rfcKey 16) sampleFile job24000017 1 3 2)
     ∷ []

@@ -1,7 +1,8 @@
 // Runs the readings of 01, Plate readings, that are not marked P: files on both sides of the limits of checking, under a good key, each
 // good but for what its line names. Prints what checking answered. Then makes each other call of `archive` on the sample archive, for jobs
-// that are there and for one that is not, and opens once more into a buffer that is a byte short. Then searches bare directories, also such
-// as no archive has. Then runs the block of RFC 5794, A.1, by each engine as `roundtrip::run_by` picks it.
+// that are there and for one that is not, and opens once more into a buffer that is a byte short; and opens ranges, on both sides of the
+// job's end and of the buffer's. Then searches bare directories, also such as no archive has. Then runs the block of RFC 5794, A.1, by each
+// engine as `roundtrip::run_by` picks it.
 // tests/known_answers/make_expected.py makes the stored output from the model of the archive and from libcrypto. The readings marked P are
 // the one theorem of proofs/Readings.
 use archive::Checked;
@@ -191,17 +192,39 @@ fn print_body(key: &[u8], file: &[u8], number: &[u8]) {
     print(b"'\n");
 }
 
-// Opens a job, and shows the buffer whole.
-fn print_opened(key: &[u8], file: &[u8], number: &[u8], buffer: &mut [u8]) {
-    print(b"open ");
-    print(number);
-    print_number(b" in ", buffer.len() as u64);
-    let opened = archive::open(key, file, number, buffer);
+// The end of a line: what opening answers, and the buffer whole.
+fn print_answer(opened: Opened, buffer: &[u8]) {
     match opened {
         Opened::Bytes(n) => print_number(b" bytes: bytes ", n as u64),
         Opened::Refused(n) => print_number(b" bytes: refused ", n as u64),
     }
     print_line(b", buffer ", buffer);
+}
+
+fn print_opened(key: &[u8], file: &[u8], number: &[u8], buffer: &mut [u8]) {
+    print(b"open ");
+    print(number);
+    print_number(b" in ", buffer.len() as u64);
+    print_answer(archive::open(key, file, number, buffer), buffer);
+}
+
+fn print_range(
+    key: &[u8],
+    file: &[u8],
+    number: &[u8],
+    first: usize,
+    count: usize,
+    buffer: &mut [u8],
+) {
+    print(b"open ");
+    print(number);
+    print_number(b" from ", first as u64);
+    print_number(b", count ", count as u64);
+    print_number(b", in ", buffer.len() as u64);
+    print_answer(
+        archive::open_range(key, file, number, first, count, buffer),
+        buffer,
+    );
 }
 
 // A job that is not there, and the one of five bytes. A buffer keeps what it had where the job is not there, past the plain bytes, and
@@ -214,6 +237,25 @@ fn open_jobs(key: &[u8], file: &[u8]) {
     print_opened(key, file, b"24000017", &mut short);
 }
 
+// Ranges of the job of five bytes: within it, to its very end, past it, by sums that pass 2^64 too; and of a job that is not there.
+fn open_ranges(key: &[u8], file: &[u8]) {
+    let mut room = [b'.'; 8];
+    print_range(key, file, b"24000017", 5, 1, &mut room);
+    print_range(key, file, b"24000017", 18446744073709551615, 1, &mut room);
+    print_range(key, file, b"24000017", 1, 18446744073709551615, &mut room);
+    print_range(key, file, b"24000019", 9, 9, &mut room);
+    print_range(key, file, b"24000017", 1, 3, &mut room);
+    print_range(key, file, b"24000017", 5, 0, &mut room);
+}
+
+// A buffer that has room for less than the range: it keeps what it had. A range that passes the job's end is told first.
+fn open_ranges_short(key: &[u8], file: &[u8]) {
+    let mut short = [b'.'; 2];
+    print_range(key, file, b"24000017", 1, 3, &mut short);
+    print_range(key, file, b"24000017", 1, 5, &mut short);
+    print_range(key, file, b"24000017", 3, 2, &mut short);
+}
+
 // Each call on the sample, for jobs that are there, the index of the second not being 0, and for one that is not.
 fn sample_calls(key: &[u8], file: &[u8]) {
     print_found(key, file, b"24000018");
@@ -222,6 +264,8 @@ fn sample_calls(key: &[u8], file: &[u8]) {
     print_body(key, file, b"24000017");
     print_body(key, file, b"24000019");
     open_jobs(key, file);
+    open_ranges(key, file);
+    open_ranges_short(key, file);
 }
 
 // A line: the number, the bare directory, and what a search of it answers. Of an entry a search looks at the number only.

@@ -6,7 +6,7 @@ use Prim.Native.Nat.{ℕ}
 use Rattle.refusals.specs.Answers.{gives, refused}
 use Rattle.blocks.specs.Blocks.{row}
 use Rattle.directory.specs.Entries.{entryAt}
-use Rattle.listing.specs.Decimal.{digitsIn, decimalDigits}
+use Rattle.decimal.specs.Decimal.{digitsIn, decimalDigits}
 use Rattle.listing.specs.Text.{field, numberLine, jobLine, jobLines, textOf}
 
 abbrev pub directory : List ℕ

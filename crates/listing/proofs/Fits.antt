@@ -15,7 +15,7 @@ use Rattle.listing.specs.Text.{numberLine, jobLine, jobLines}
 use Rattle.listing.specs.Listing.{Holds}
 use Rattle.listing.specs.Internal.{Lays, Printable}
 use Rattle.listing.specs.declared.Listing.{Listing}
-use Rattle.listing.proofs.Decimal.{limit, length-decimal}
+use Rattle.decimal.proofs.Digits.{limit, length-decimal}
 use Rattle.listing.proofs.Lines.{length-field, length-number-line, length-job-line, lines-more}
 
 pub number-line-short : (word : List ℕ) (k n : ℕ) → n < limit k → length (numberLine word n) ≤ length word + k + 2

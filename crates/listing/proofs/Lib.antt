@@ -1,4 +1,3 @@
-pub mod Decimal
 pub mod Pieces
 pub mod Lines
 pub mod Fits

@@ -7,7 +7,7 @@ use native.Mathlib.Omega.{arith}
 use lib.ListN.{length, length-append}
 use Rattle.blocks.specs.Blocks.{row}
 use Rattle.directory.specs.Entries.{entryAt, numberOf, startOf, sizeOf}
-use Rattle.listing.specs.Decimal.{decimalDigits}
+use Rattle.decimal.specs.Decimal.{decimalDigits}
 use Rattle.listing.specs.Text.{field, numberLine, jobLine, jobLines}
 
 pub length-field : (n : ℕ) → length (field n) ≡ suc (length (decimalDigits n))

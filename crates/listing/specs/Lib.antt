@@ -1,4 +1,3 @@
-pub mod Decimal
 pub mod Text
 pub mod Listing
 pub mod Internal

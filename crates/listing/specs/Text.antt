@@ -6,7 +6,7 @@ use Prim.Native.Nat.{ℕ}
 use Rattle.refusals.specs.Answers.{Answer, refused, gives}
 use Rattle.blocks.specs.Blocks.{row}
 use Rattle.directory.specs.Entries.{entryAt, numberOf, startOf, sizeOf}
-use Rattle.listing.specs.Decimal.{decimalDigits}
+use Rattle.decimal.specs.Decimal.{decimalDigits}
 
 -- `jobs ` and `refused `, with the space
 abbrev pub jobsWord : List ℕ

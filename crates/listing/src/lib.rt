@@ -7,7 +7,7 @@ ghost use mathlib.Core.List.{[], _∷_};
 ghost use Prim.Native.Nat.{_+_, _%_};
 ghost use Rattle.refusals.specs.Answers.{gives};
 ghost use Rattle.directory.specs.Entries.{entries};
-ghost use Rattle.listing.specs.Decimal.{decimalDigits};
+ghost use Rattle.decimal.specs.Decimal.{decimalDigits};
 ghost use Rattle.listing.specs.Text.{refusedWord, field, numberLine, jobLine, jobLines, textOf};
 ghost use Rattle.listing.specs.Listing.{listingText, Holds};
 ghost use Rattle.listing.specs.Internal.{Lays, Printable};

@@ -1,14 +1,32 @@
-// Writes the plain bytes of the job that its argument names, from the archive on standard input, under the key in key.bin.
+// Writes plain bytes of the job that its first word names, all of them or the range that two more words ask for, from the archive on
+// standard input, under the key in key.bin.
 // A refusal goes to standard error, so that plain bytes can never be mistaken for one, and so does what goes wrong outside the archive.
 use archive::Opened;
+use decimal::Number;
 use libc::STDERR_FILENO;
 use libc::STDIN_FILENO;
 use libc::STDOUT_FILENO;
+ghost use mathlib.Core.Path.{_≡_};
+ghost use Prim.Native.Nat.{ℕ, _≤_};
+ghost use lib.ListN.{length};
+ghost use Rattle.refusals.specs.Answers.{gives};
+ghost use Rattle.archive.specs.Open.{openedAs};
+
+// What is asked for of a job.
+enum Asked {
+    Whole,
+    // the first byte, and how many
+    Range(usize, usize),
+}
 
 fn print_usage() {
     io::write_all(
         STDERR_FILENO,
-        b"usage: open JOB < ARCHIVE > PLAIN\nopens the job of that number, eight digits, under the key in key.bin of this folder\n",
+        b"usage: open NUMBER [FIRST COUNT] < ARCHIVE > PLAIN\n",
+    );
+    io::write_all(
+        STDERR_FILENO,
+        b"opens the job of that number, eight digits, or COUNT bytes of it from byte FIRST on, counted from 0, under the key in key.bin of this folder\n",
     );
 }
 
@@ -26,11 +44,21 @@ fn write_plain(bytes: &[u8]) {
     }
 }
 
-// Opens the job and writes its plain bytes, or the refusal.
-fn write_job(key: &[u8], file: &[u8], number: &[u8]) {
+// Opens what is asked for of the job.
+fn open_asked(key: &[u8], file: &[u8], number: &[u8], asked: Asked, plain: &mut [u8]) -> Opened
+    ensures { λ r. ⌜ ((n : ℕ) → openedAs r ≡ gives n → n ≤ length (now (plain .exit))) ⌝ }
+{
+    match asked {
+        Asked::Whole => archive::open(key, file, number, plain),
+        Asked::Range(first, count) => archive::open_range(key, file, number, first, count, plain),
+    }
+}
+
+// Opens the job and writes what is asked for, or the refusal.
+fn write_job(key: &[u8], file: &[u8], number: &[u8], asked: Asked) {
     // no body is longer than the longest archive
     let mut plain = [0u8; 65536];
-    let opened = archive::open(key, file, number, &mut plain);
+    let opened = open_asked(key, file, number, asked, &mut plain);
     match opened {
         Opened::Refused(n) => print_refusal(n),
         Opened::Bytes(n) => write_plain(&plain[..n]),
@@ -38,7 +66,7 @@ fn write_job(key: &[u8], file: &[u8], number: &[u8]) {
 }
 
 // Reads the key and the archive, and opens the job.
-fn open_job(number: &[u8]) {
+fn open_job(number: &[u8], asked: Asked) {
     // one byte more than the longest key
     let mut key = [0u8; 33];
     let k = inputs::named_file(b"key.bin", &mut key);
@@ -50,13 +78,11 @@ fn open_job(number: &[u8]) {
         return;
     }
     let n = input.length;
-    write_job(&key[..k], &file[..n], number);
+    write_job(&key[..k], &file[..n], number, asked);
 }
 
-fn main() {
-    if os::arg_count() != 2 {
-        return print_usage();
-    }
+// Opens the job that the first word names.
+fn open_named(asked: Asked) {
     // a hint for who waits at a terminal; it changes nothing that follows
     if libc::isatty(STDIN_FILENO) == 1 {
         print_usage();
@@ -64,5 +90,37 @@ fn main() {
     // one byte more than a job number: a word that does not fit counts as empty, which is no job number either
     let mut number = [0u8; 9];
     let d = os::arg(1, &mut number);
-    open_job(&number[..d]);
+    open_job(&number[..d], asked);
+}
+
+// The number that word i is.
+fn number_at(i: usize) -> Number {
+    // one byte more than the longest number: a word that does not fit counts as empty, which is no number either
+    let mut word = [0u8; 21];
+    let n = os::arg(i, &mut word);
+    decimal::read(&word[..n])
+}
+
+// Opens the range that the second and the third word ask for.
+fn open_words() {
+    let first = number_at(2);
+    let count = number_at(3);
+    if !first.good {
+        return print_usage();
+    }
+    if !count.good {
+        return print_usage();
+    }
+    open_named(Asked::Range(first.value, count.value));
+}
+
+fn main() {
+    let words = os::arg_count();
+    if words == 2 {
+        return open_named(Asked::Whole);
+    }
+    if words == 4 {
+        return open_words();
+    }
+    print_usage();
 }

@@ -1,4 +1,4 @@
--- `archive::decrypt` meets its contract: the body is copied to the buffer's front, and counter mode works on that part.
+-- `archive::decrypt` meets its contract: the sealed bytes are copied to the buffer's front, and counter mode works on that part.
 -- Assumes nothing.
 use native.Mathlib.Nat.{sub-zero}
 use borrow.Author.Needs.{needs}
@@ -28,9 +28,11 @@ returns : tie.Need-returns
 returns c =
     let copied = c .before .before .before .before .before .before in
     let s = copied .before .before .before .before in
-    let body = s .args .body .now in
+    let sealed = s .args .sealed .now in
     let out = s .args .out .now in
-    decrypted _ _ body out _ _ _ _ (s .pre .0) (sub-zero _) (s .pre .1) (copied .copy .ensures) (c .before .before .apply .ensures)
+    decrypted (s .args .schedule) (s .args .prefix) (s .args .first) sealed out _ _ _ _ (s .pre .0) (sub-zero _) (s .pre .1)
+    (copied .copy .ensures)
+    (c .before .before .apply .ensures)
 
 pub decrypt-spec : {M : Type 1} → statement M
 decrypt-spec =

@@ -1,32 +1,20 @@
--- `archive::open` meets its contract: a refusal of key or file stands; an accepted archive leaves the job and the buffer.
+-- `archive::open` meets its contract: the range is all of the job's bytes.
 -- Assumes nothing.
-use mathlib.Core.Path.{sym, _∙_}
 use borrow.Author.Needs.{needs}
-use Rattle.archive.proofs.Accepted.{accepted-rounds, accepted-header}
-use Rattle.archive.proofs.Opening.{opens-refused, opens-asked}
 use Rattle.archive.proofs.open.Statement.{statement}
 use Rattle.archive.proofs.open.Tie as tie
 
-admit-requires : tie.Need-admit-requires
-admit-requires c κs = search needs
+job-size-requires : tie.Need-job-size-requires
+job-size-requires c κs = search needs
 
-returns : tie.Need-returns
-returns c = opens-refused _ _ _ _ _ (c .before .admit .ensures .number) (c .if1 .taken)
-
-open-job-requires : tie.Need-open-job-requires
-open-job-requires c κs =
-    let a = c .before .before .admit .ensures in
-    let none = sym (a .number) ∙ c .before .if1 .left in
-    (rw (a .schedule) (accepted-rounds _ _ _ none), accepted-header _ _ _ none .long)
+open-range-requires : tie.Need-open-range-requires
+open-range-requires c κs = search needs
 
 same-length : tie.Need-same-length
 same-length c = search needs
 
-returns-2 : tie.Need-returns-2
-returns-2 c =
-    let asked = c .before .before .before .before in
-    let a = asked .before .admit .ensures in
-    opens-asked _ _ _ _ _ _ _ (sym (a .number) ∙ asked .if1 .left) (a .schedule) (c .before .before .open-job .ensures)
+returns : tie.Need-returns
+returns c = rw (c .before .before .before .before .job-size .ensures) at (c .before .before .open-range .ensures)
 
 pub open-spec : {M : Type 1} → statement M
-open-spec = tie.close (tie.spec admit-requires returns open-job-requires same-length returns-2)
+open-spec = tie.close (tie.spec job-size-requires open-range-requires same-length returns)

@@ -1,4 +1,4 @@
--- `archive::open_job` meets its contract: the job is looked up, the buffer's length is tested, and the body is decrypted.
+-- `archive::open_job` meets its contract: the job is looked up, and a range of its body is opened.
 -- Assumes nothing.
 use mathlib.Core.Path.{sym, ap, _∙_}
 use lib.ListN.{length}
@@ -6,7 +6,7 @@ use borrow.Author.Needs.{needs}
 use Rattle.header.proofs.Accepted.{number-length}
 use Rattle.directory.specs.Search.{foundAs}
 use Rattle.archive.proofs.Finding.{lookup-eight}
-use Rattle.archive.proofs.Opening.{job-refused, job-short, job-open}
+use Rattle.archive.proofs.Opening.{job-refused, job-found}
 use Rattle.archive.proofs.open_job.Statement.{statement}
 use Rattle.archive.proofs.open_job.Tie as tie
 
@@ -19,43 +19,36 @@ enum-known-f c = search needs
 enum-known-f-2 : tie.Need-enum-known-f-2
 enum-known-f-2 c = search needs
 
-body-at-requires : tie.Need-body-at-requires
-body-at-requires c κs = search needs
-
-returns : tie.Need-returns
-returns c =
-    let at = c .before .before .before in
-    let told = sym (ap foundAs (at .f2 .given .1)) ∙ at .before .before .lookup .ensures in
-    job-short _ _ _ _ _ _ told (c .before .body-at .ensures .bytes) (c .if1 .taken)
-
 archive-number-requires : tie.Need-archive-number-requires
 archive-number-requires c κs = search needs
 
 prefix-requires : tie.Need-prefix-requires
 prefix-requires c κs =
-    let at = c .before .before .before .before in
+    let at = c .before .before in
     let s = at .before .before .before .before .before .before in
     let told = sym (ap foundAs (at .f2 .given .1)) ∙ at .before .before .lookup .ensures in
     (ap length (c .archive-number .ensures .bytes) ∙ number-length _ (s .pre .1), lookup-eight _ _ _ told)
 
-decrypt-requires : tie.Need-decrypt-requires
-decrypt-requires c κs = search needs
+body-at-requires : tie.Need-body-at-requires
+body-at-requires c κs = search needs
 
-returns-2 : tie.Need-returns-2
-returns-2 c = job-refused _ _ _ _ _ (sym (ap foundAs (c .before .f .given .1)) ∙ c .before .before .before .lookup .ensures)
+open-body-requires : tie.Need-open-body-requires
+open-body-requires c κs = search needs
+
+returns : tie.Need-returns
+returns c = job-refused _ _ _ _ _ _ _ (sym (ap foundAs (c .before .f .given .1)) ∙ c .before .before .before .lookup .ensures)
 
 same-length : tie.Need-same-length
 same-length c = search needs
 
-returns-3 : tie.Need-returns-3
-returns-3 c =
-    let decrypted = c .before .before in
-    let prefixed = decrypted .before .before in
-    let sized = prefixed .before .before in
-    let at = sized .before .before .before in
+returns-2 : tie.Need-returns-2
+returns-2 c =
+    let opened = c .before .before in
+    let prefixed = opened .before .before .before in
+    let at = prefixed .before .before .before in
     let told = sym (ap foundAs (at .f2 .given .1)) ∙ at .before .before .lookup .ensures in
     let prefix = rw (prefixed .before .archive-number .ensures .bytes) at (prefixed .prefix .ensures) in
-    job-open _ _ _ _ _ _ told (sized .before .body-at .ensures .bytes) _ _ prefix (sized .if1 .left) (decrypted .decrypt .ensures)
+    job-found _ _ _ _ _ _ _ _ _ _ _ told (opened .before .before .body-at .ensures .bytes) prefix (opened .open-body .ensures)
 
 pub open-job-spec : {M : Type 1} → statement M
 open-job-spec =
@@ -64,11 +57,10 @@ open-job-spec =
     lookup-requires
     enum-known-f
     enum-known-f-2
-    body-at-requires
-    returns
     archive-number-requires
     prefix-requires
-    decrypt-requires
-    returns-2
+    body-at-requires
+    open-body-requires
+    returns
     same-length
-    returns-3)
+    returns-2)

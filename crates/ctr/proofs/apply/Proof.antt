@@ -15,7 +15,7 @@ returns c =
     let a = c .before .before .before .args in
     let e = c .before .«rounds» .ensures in
     let bad = rounds-bad _ (λ q. c .if1 .taken (e ∙ q)) in
-    record { number = e; bytes = sym (ctr-refused (a .schedule) (a .prefix) (a .run .now) bad) }
+    record { number = e; bytes = sym (ctr-refused (a .schedule) (a .prefix) (a .first) (a .run .now) bad) }
 
 add-keystream-requires : tie.Need-add-keystream-requires
 add-keystream-requires c κs = rounds-good _ (sym (c .before .before .«rounds» .ensures) ∙ c .before .if1 .left)
@@ -31,7 +31,7 @@ returns-2 c =
     let good = rounds-good _ (sym e ∙ d .if1 .left) in
     record {
       number = sym (d .if1 .left) ∙ e;
-      bytes = c .before .before .add-keystream .ensures ∙ sym (ctr-done (a .schedule) (a .prefix) (a .run .now) good);
+      bytes = c .before .before .add-keystream .ensures ∙ sym (ctr-done (a .schedule) (a .prefix) (a .first) (a .run .now) good);
     }
 
 pub apply-spec : {M : Type 1} → statement M

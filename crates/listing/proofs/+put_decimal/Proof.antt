@@ -4,7 +4,7 @@ use mathlib.Core.Path.{sym}
 use Prim.Native.Nat.{ℕ, _<_}
 use native.Mathlib.Omega.{arith}
 use borrow.Author.Needs.{needs}
-use Rattle.listing.proofs.Decimal.{decimal-small, decimal-more}
+use Rattle.decimal.proofs.Digits.{decimal-small, decimal-more}
 use Rattle.listing.proofs.Pieces.{lays-as, lays-then}
 use borrow.Fn.Kinds.{In}
 use borrow.Fn.PlainCycle.{Measures, is, falls, and}

@@ -4,15 +4,14 @@ use mathlib.Core.Path.{sym, ap}
 use lib.Seq.{length-take-le}
 use borrow.Author.Needs.{needs}
 use Rattle.archive.specs.Open.{openedAs}
-use Rattle.archive.proofs.Opening.{opens-fits}
 use Rattle.open.proofs.write_job.Statement.{statement}
 use Rattle.open.proofs.write_job.Tie as tie
 
-slice-aggregate-open : tie.Need-slice-aggregate-open
-slice-aggregate-open c = search needs
+slice-aggregate-open-asked : tie.Need-slice-aggregate-open-asked
+slice-aggregate-open-asked c = search needs
 
-open-requires : tie.Need-open-requires
-open-requires c κs = search needs
+open-asked-requires : tie.Need-open-asked-requires
+open-asked-requires c κs = search needs
 
 enum-known-opened : tie.Need-enum-known-opened
 enum-known-opened c = search needs
@@ -24,14 +23,12 @@ enum-known-opened-2 : tie.Need-enum-known-opened-2
 enum-known-opened-2 c = search needs
 
 array-share-prefix-plain : tie.Need-array-share-prefix-plain
-array-share-prefix-plain c =
-    let o = c .before .before .before .before .«open» .ensures in
-    opens-fits _ _ _ _ _ _ o _ (ap openedAs (c .before .opened2 .given .1))
+array-share-prefix-plain c = c .before .before .before .before .open-asked .ensures _ (ap openedAs (c .before .opened2 .given .1))
 
 slice-aggregate-write-plain : tie.Need-slice-aggregate-write-plain
 slice-aggregate-write-plain c =
-    let o = c .before .before .before .before .before .«open» .ensures in
-    sym (length-take-le _ _ (opens-fits _ _ _ _ _ _ o _ (ap openedAs (c .before .before .opened2 .given .1))))
+    let within = c .before .before .before .before .before .open-asked .ensures _ (ap openedAs (c .before .before .opened2 .given .1)) in
+    sym (length-take-le _ _ within)
 
 write-plain-requires : tie.Need-write-plain-requires
 write-plain-requires c κs = search needs
@@ -46,8 +43,8 @@ pub write-job-spec : {M : Type 1} → statement M
 write-job-spec =
     tie.close
     (tie.spec
-    slice-aggregate-open
-    open-requires
+    slice-aggregate-open-asked
+    open-asked-requires
     enum-known-opened
     print-refusal-requires
     enum-known-opened-2

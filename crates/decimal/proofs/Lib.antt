@@ -1,0 +1,4 @@
+pub mod Values
+pub mod Digits
+pub mod Laws
+pub mod Reading

@@ -1,0 +1,4 @@
+pub mod Decimal
+pub mod Word
+pub mod Laws
+pub mod Internal
