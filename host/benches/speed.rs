@@ -1,12 +1,12 @@
-//! Speed of both engines and of libcrypto's ARIA, side by side: `cargo bench`.
+//! Speed of both engines and of libcrypto's ARIA, side by side, and of opening a job: `cargo bench`.
 //!
-//! Block runs are those of the package. Counter mode is not among its calls, so it comes from a library
-//! for this bench alone, which `rt staticlib benchlib` writes.
+//! Block runs are those of the package. Counter mode and the archive are not among its calls, so they come
+//! from a library for the bench and the tests alone, which `rt staticlib benchlib` writes.
 //!
 //! Each figure is the best of several rounds, the engines taking turns within a round so that a slow
 //! spell of the machine meets all of them. Time is the thread's CPU time. Every call prepares its key,
-//! libcrypto's too. Keys are 16 bytes. Before a row is measured all must give the same bytes. It
-//! asserts nothing about time.
+//! libcrypto's too. Keys are 16 bytes. Before a row is measured all must give the same bytes, and what
+//! is opened must be what was sealed. It asserts nothing about time.
 
 #[path = "../tests/support/libcrypto.rs"]
 mod libcrypto;
@@ -40,6 +40,35 @@ extern "C" {
         prefix_len: usize,
         run: *mut u8,
         run_len: usize,
+    ) -> u32;
+
+    /// The whole check of key and file: 0, or the refusal.
+    fn bench_check(key: *const u8, key_len: usize, file: *const u8, file_len: usize) -> u32;
+
+    /// A whole job into the front of a buffer: 0, or the refusal.
+    fn bench_open(
+        key: *const u8,
+        key_len: usize,
+        file: *const u8,
+        file_len: usize,
+        number: *const u8,
+        number_len: usize,
+        out: *mut u8,
+        out_len: usize,
+    ) -> u32;
+
+    /// A range of a job into the front of a buffer: 0, or the refusal.
+    fn bench_open_range(
+        key: *const u8,
+        key_len: usize,
+        file: *const u8,
+        file_len: usize,
+        number: *const u8,
+        number_len: usize,
+        first: usize,
+        count: usize,
+        out: *mut u8,
+        out_len: usize,
     ) -> u32;
 }
 
@@ -183,6 +212,120 @@ fn counter_runs(buffer: &mut [u8]) {
     println!("64 KiB {tables:>30.1} {lib:>10.1} {:>22.2}", tables / lib);
 }
 
+/// How many jobs the archive has. The last is opened; the others have no bytes.
+const JOBS: usize = 64;
+const NUMBER: [u8; 8] = *b"24000064";
+const ARCHIVE_NUMBER: [u8; 4] = [0, 0, 0, 7];
+const JOB: usize = 60 << 10;
+/// The range of it: its last KiB.
+const RANGE: usize = 1 << 10;
+
+/// The archive, the plain bytes sealed by libcrypto.
+fn archive_of(plain: &[u8]) -> Vec<u8> {
+    let mut check = [0xff; 16];
+    run(Engine::Tables, &KEY, Direction::Forward, &mut check).expect("a block");
+    let mut body = plain.to_vec();
+    let mut first = [0; 16];
+    first[..4].copy_from_slice(&ARCHIVE_NUMBER);
+    first[4..12].copy_from_slice(&NUMBER);
+    Ctr::new(KEY.len()).run(&KEY, &first, &mut body);
+
+    let start = 20 + 16 * JOBS;
+    let mut file = vec![1, KEY.len() as u8, 0, JOBS as u8];
+    file.extend(ARCHIVE_NUMBER);
+    file.extend(&check[..8]);
+    file.extend(((start + body.len()) as u32).to_be_bytes());
+    for job in 1..=JOBS {
+        let length = if job == JOBS { body.len() } else { 0 };
+        file.extend(format!("240000{job:02}").into_bytes());
+        file.extend((start as u32).to_be_bytes());
+        file.extend((length as u32).to_be_bytes());
+    }
+    file.extend(body);
+    file
+}
+
+fn check(file: &[u8]) {
+    // SAFETY: the slices are valid for their lengths. The function has no `requires`.
+    let number = unsafe { bench_check(KEY.as_ptr(), KEY.len(), file.as_ptr(), file.len()) };
+    assert_eq!(number, 0, "bench_check");
+}
+
+fn open(file: &[u8], out: &mut [u8]) {
+    // SAFETY: the slices are valid for their lengths, and a mutable borrow overlaps no other. The function
+    // has no `requires`.
+    let number = unsafe {
+        bench_open(
+            KEY.as_ptr(),
+            KEY.len(),
+            file.as_ptr(),
+            file.len(),
+            NUMBER.as_ptr(),
+            NUMBER.len(),
+            out.as_mut_ptr(),
+            out.len(),
+        )
+    };
+    assert_eq!(number, 0, "bench_open");
+}
+
+fn open_range(file: &[u8], first: usize, count: usize, out: &mut [u8]) {
+    // SAFETY: as in `open`.
+    let number = unsafe {
+        bench_open_range(
+            KEY.as_ptr(),
+            KEY.len(),
+            file.as_ptr(),
+            file.len(),
+            NUMBER.as_ptr(),
+            NUMBER.len(),
+            first,
+            count,
+            out.as_mut_ptr(),
+            out.len(),
+        )
+    };
+    assert_eq!(number, 0, "bench_open_range");
+}
+
+/// Microseconds a call, over so many calls.
+fn microseconds(calls: usize, call: &mut dyn FnMut()) -> f64 {
+    let before = thread_seconds();
+    for _ in 0..calls {
+        call();
+    }
+    (thread_seconds() - before) * 1e6 / calls as f64
+}
+
+fn openings(buffer: &mut [u8]) {
+    let plain = &buffer[..JOB];
+    let file = archive_of(plain);
+    let (mut whole, mut range) = (vec![0; JOB], vec![0; RANGE]);
+    open(&file, &mut whole);
+    assert_eq!(whole, plain, "another job than was sealed");
+    open_range(&file, JOB - RANGE, RANGE, &mut range);
+    assert_eq!(range, plain[JOB - RANGE..], "another range than was sealed");
+
+    let mut best = [f64::INFINITY; 3];
+    for _ in 0..ROUNDS {
+        let figures = [
+            microseconds(64, &mut || check(&file)),
+            microseconds(64, &mut || {
+                open_range(&file, JOB - RANGE, RANGE, &mut range)
+            }),
+            microseconds(64, &mut || open(&file, &mut whole)),
+        ];
+        for (least, figure) in best.iter_mut().zip(figures) {
+            *least = least.min(figure);
+        }
+    }
+    let [check, range, whole] = best;
+    println!("an archive of {JOBS} jobs, the last of 60 KiB, microseconds a call");
+    println!("the check of key and file     {check:>8.1}");
+    println!("its last KiB, with the check  {range:>8.1}");
+    println!("the whole job, with the check {whole:>8.1}");
+}
+
 fn main() {
     // Filled before the clock runs, so that no page is touched first inside a measurement.
     let mut buffer: Vec<u8> = (0..1 << 20).map(|i: u32| (i % 251) as u8).collect();
@@ -200,4 +343,5 @@ fn main() {
     );
     block_runs(&mut buffer);
     counter_runs(&mut buffer);
+    openings(&mut buffer);
 }

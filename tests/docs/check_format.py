@@ -47,6 +47,11 @@ FOLLOWED = [
     "The first begins where the directory ends, at 20 + 16 × count;",
     "Plain byte j is therefore body byte j ⊕ byte j mod 16 of E(counter block j div 16).",
     "make the whole check, 1 to 17, first",
+    "a first byte, counted from 0, and a count of bytes.",
+    "first byte plus count exceeds its length; a range of no bytes at the very end is accepted",
+    "shorter than the range;",
+    "The plain bytes of the range are bytes first to first + count - 1 of the job's plain bytes.",
+    "only the counter blocks first div 16 to (first + count - 1) div 16,",
     "The bits of a byte are numbered 0 to 7, and bit 0 is worth 1.",
     "The inverse of x is the byte whose product with x is `01`; the inverse of `00` is `00`.",
     "S3(S1(x)) = x and S4(S2(x)) = x for every byte x.",
@@ -144,8 +149,8 @@ def faults_of_writing(page):
 
 def faults_of_refusals(page):
     numbers = [int(row[0]) for row in page.section("Reading").table("number", "refused because")]
-    if numbers != [1] + list(range(5, 21)):
-        yield "the refusals are not 1 and 5 to 20 in order"
+    if numbers != [1] + list(range(5, 20)) + [26, 20]:
+        yield "the refusals are not 1, 5 to 19, 26 and 20 in order"
 
 
 def faults_of_layout(page):
@@ -220,6 +225,11 @@ def faults_of_example(page):
         yield "the keystream is %s" % stream[:5].hex(" ")
     if rows["plain bytes"] != xor(rows["body"], rows["keystream"]) or rows["plain bytes"] != b"dried":
         yield "the plain bytes are %s" % xor(rows["body"], rows["keystream"]).hex(" ")
+    first, count = map(int, re.search(r"The range of that job from byte (\d+) on, (\d+) bytes,", page.text).groups())
+    parts = [rows[label][first : first + count].hex(" ") for label in ("body", "keystream", "plain bytes")]
+    said = "body `%s`, keystream `%s`, plain bytes `%s`, the text `%s`." % (*parts, bytes.fromhex(parts[2]).decode())
+    if "is bytes %d to %d of the three rows above: %s" % (first, first + count - 1, said) not in page.text:
+        yield "the range should say: %s" % said
 
 
 def faults_of_key_checks(page):
@@ -465,6 +475,8 @@ def faults_of_computing(page):
             yield "the definitions give another byte %d of the keystream" % at
     if bytes(computed("addStream", stream, 0, file[52:57])) != b"dried":
         yield "the definitions do not open the sample"
+    if bytes(computed("addStream", stream, 1, file[53:56])) != b"rie":
+        yield "the definitions do not open a range of the sample"
 
 
 def faults_of_paths(page):

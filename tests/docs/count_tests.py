@@ -18,6 +18,7 @@ TOP = os.path.normpath(os.path.join(os.path.dirname(os.path.abspath(__file__)), 
 sys.path.insert(0, os.path.join(TOP, "tests", "model"))
 
 import cases  # noqa: E402
+import ranges  # noqa: E402
 import run  # noqa: E402
 
 BEGIN = "<!-- figures: counted by tests/docs/count_tests.py -->\n"
@@ -64,8 +65,10 @@ def figures():
     yield "archives of the model with one byte changed", len(changed)
     yield "random archives of the model", len(chosen)
     yield "distinct ones among all these", len({case.file for case in made + changed + chosen})
+    yield "ranges that `open` is asked for, beside those of each archive", len(list(run.ranges()))
+    yield "calls of `tests/model/ranges.py`", sum(1 for _ in ranges.calls())
     faults = programs()
-    yield "cases of `tests/programs`", sum(len(list(faults.cases(says))) for says in (faults.JOBS, faults.OPEN))
+    yield "cases of `tests/programs`", sum(len(list(faults.cases(says))) for says in faults.PROGRAMS)
     yield "self-tests of the model", count(r"^    def test_", "tests/model/selftest.py")
     for path in found("host/tests/*.rs"):
         name = os.path.relpath(path, TOP)

@@ -31,7 +31,7 @@ Says = namedtuple("Says", "name words output could_not_read could_not_write usag
 
 JOBS = Says(
     "jobs",
-    [],
+    (),
     b"jobs 2\n24000017 52 5\n24000018 57 0\n",
     b"jobs: could not read\n",
     b"jobs: could not write\n",
@@ -39,23 +39,29 @@ JOBS = Says(
 )
 OPEN = Says(
     "open",
-    ["24000017"],
+    ("24000017",),
     b"dried",
     b"open: could not read\n",
     b"open: could not write\n",
-    b"usage: open JOB < ARCHIVE > PLAIN\nopens the job of that number, eight digits, under the key in key.bin of this folder\n",
+    b"usage: open NUMBER [FIRST COUNT] < ARCHIVE > PLAIN\n"
+    b"opens the job of that number, eight digits, or COUNT bytes from its byte FIRST on, under the key in key.bin of this folder\n",
 )
+# The same program, asked for a range.
+OPEN_RANGE = OPEN._replace(words=("24000017", "1", "3"), output=b"rie")
+PROGRAMS = [JOBS, OPEN, OPEN_RANGE]
 
 # The key file's descriptor: the first that is free.
 KEY_FILE = 3
 # How often a read that signals break off is tried.
 TRIES = 1000
+# How many seconds a terminal is waited for.
+PATIENCE = 10
 
 
 def refused(says, number):
     """A refusal's line: `jobs` prints it, `open` keeps standard output for plain bytes."""
     line = b"refused %d\n" % number
-    return Written(line, b"", 0) if says is JOBS else Written(b"", line, 0)
+    return Written(line, b"", 0) if says.name == "jobs" else Written(b"", line, 0)
 
 
 class Folder:
@@ -109,12 +115,12 @@ def writing(says):
     yield "output to /dev/full", failed, to_full
     yield "standard output closed", failed, lambda f: f.run(says.words, stdout=None, shell=">&-")
     yield "standard output open for reading only", failed, lambda f: f.run(says.words, stdout=None, shell="1<archive.bin")
-    for after in (0, 1, 4):
+    for after in (0, 1, len(says.output) - 1):
         yield "disk full after %d bytes" % after, Written(says.output[:after], says.could_not_write, 0), (
             lambda f, after=after: f.run(says.words, fault=("write", 1, after, errno.ENOSPC, 1))
         )
 
-    for after in (1, 4):
+    for after in (1, len(says.output) - 1):
         yield "a write cut short after %d bytes" % after, Written(says.output, b"", 0), (
             lambda f, after=after: f.run(says.words, fault=("write", 1, after, 0, 1))
         )
@@ -124,7 +130,7 @@ def writing(says):
         here, there = pty.openpty()
         try:
             written = f.run(says.words, stdout=there)
-            return written._replace(stdout=os.read(here, 4096))
+            return written._replace(stdout=os.read(here, 4096) if select.select([here], [], [], PATIENCE)[0] else b"")
         finally:
             os.close(here)
             os.close(there)
@@ -249,8 +255,9 @@ def terminals(says):
         with subprocess.Popen(
             [f.program, *says.words], cwd=f.path, stdin=there, stdout=subprocess.PIPE, stderr=subprocess.PIPE
         ) as process:
-            waiting = select.select([process.stderr], [], [], SECONDS)[0]
-            hint = process.stderr.read(len(says.usage)) if waiting else b"no hint, then "
+            hint = b""
+            while len(hint) < len(says.usage) and select.select([process.stderr], [], [], PATIENCE)[0]:
+                hint += os.read(process.stderr.fileno(), len(says.usage)) or b" and no more"
             os.write(here, b"\x04")
             out, err = process.communicate(timeout=SECONDS)
         os.close(here)
@@ -270,16 +277,55 @@ def words_of_jobs(says):
 
 def words_of_open(says):
     usage = Written(b"", says.usage, 0)
-    for words in ([], ["24000017", "24000018"], ["24000017", ""], ["24000017"] * 5):
+    # no word, a first byte without a count, and more words than are taken
+    for words in ([], ["24000017", "24000018"], ["24000017", "0"], ["24000017", ""], ["24000017", "0", "5", "0"], ["24000017"] * 5):
         yield "words %s" % words, usage, lambda f, words=words: f.run(words)
     for words in ([""], ["--help"], ["2400001"], ["240000170"], ["2" * 5000]):
         yield "word %.20s" % words, refused(says, 18), lambda f, words=words: f.run(words)
     yield "a job of no bytes", Written(b"", b"", 0), lambda f: f.run(["24000018"])
 
 
+# Words that are no number from 0 to 2^64 - 1 in decimal, or longer than 20 bytes.
+NO_NUMBERS = ["", " ", "-", "+", "-1", "+1", " 1", "1 ", "1\n", "1.0", "1e1", "0x1", "1,000", "a", "1a", "a1", "/", ":", "0/", "0:", "\u0661"]
+NO_NUMBERS += [str(2**64), str(2**64 + 1), str(2**64 + 10), str(10**20 - 1), "99999999999999999999"]
+NO_NUMBERS += ["0" * 21, "0" * 20 + "1", "1" + "0" * 20, "1" * 21, "1" * 22, "0" * 5000]
+
+
+def words_of_ranges(says):
+    """Two further words are numbers, or the usage is all that is written: whatever the job number, the archive and the key."""
+    usage = Written(b"", says.usage, 0)
+
+    def unread(f, words):
+        """Neither key nor archive is looked at where the words are not taken."""
+        os.remove(f.file("key.bin"))
+        return f.run(words, shell="<&-")
+
+    for word in NO_NUMBERS:
+        for words in (["24000017", word, "1"], ["24000017", "1", word], ["24000017", word, word]):
+            yield "words %.60s" % words, usage, lambda f, words=words: f.run(words)
+    yield "a bad job number and a bad range", usage, lambda f: f.run(["2400001", "x", "1"])
+    yield "a bad range, no key and no archive", usage, lambda f: unread(f, ["24000017", "1", "-1"])
+    yield "a range, no key and no archive", refused(says, 1), lambda f: unread(f, ["24000017", "1", "3"])
+    zeros = ("0" * 19 + "1", "0" * 19 + "3")
+    for first, count, wanted in (("0", "5", b"dried"), ("00", "05", b"dried"), (*zeros, b"rie"), ("0", "0", b""), ("5", "0", b""), ("4", "1", b"d")):
+        yield "range %s %s" % (first, count), Written(wanted, b"", 0), (
+            lambda f, first=first, count=count: f.run(["24000017", first, count])
+        )
+    most = str(2**64 - 1)
+    for first, count in (("0", "6"), ("1", "5"), ("5", "1"), ("6", "0"), ("0", most), ("1", most), (most, "0"), (most, "1"), (most, most)):
+        yield "range %s %s" % (first, count), refused(says, 26), (
+            lambda f, first=first, count=count: f.run(["24000017", first, count])
+        )
+    yield "a range of no bytes of a job of no bytes", Written(b"", b"", 0), lambda f: f.run(["24000018", "0", "0"])
+    yield "a range of a job of no bytes", refused(says, 26), lambda f: f.run(["24000018", "0", "1"])
+    yield "a range of a job that is not there", refused(says, 19), lambda f: f.run(["24000019", "9", "9"])
+    yield "a range of a number that is none", refused(says, 18), lambda f: f.run(["2400001", "9", "9"])
+
+
 def cases(says):
     """Each case of a program: its name, what is to be written, and how it is run in a folder."""
-    for group in (whole, writing, reading, key_files, terminals, words_of_jobs if says is JOBS else words_of_open):
+    words = {JOBS: words_of_jobs, OPEN: words_of_open, OPEN_RANGE: words_of_ranges}[says]
+    for group in (whole, writing, reading, key_files, terminals, words):
         yield from group(says)
 
 
@@ -295,14 +341,15 @@ def main():
             ["cc", "-std=c99", "-Wall", "-Wextra", "-Werror", "-shared", "-fPIC", os.path.join(HERE, "faults.c"), "-o", faults, "-ldl"],
             check=True,
         )
-        for says, program in ((JOBS, options.jobs), (OPEN, options.open)):
+        for says in PROGRAMS:
+            program = options.jobs if says is JOBS else options.open
             for name, expected, run in cases(says):
                 with Folder(program, faults) as folder:
                     written = run(folder)
                 agreed += written == expected
                 differed += written != expected
                 if written != expected:
-                    print("DIFFERS %s: %s\n  expected %s\n  written  %s" % (says.name, name, expected, written))
+                    print("DIFFERS %s: %s\n  expected %s\n  written  %s" % (" ".join([says.name, *says.words]), name, expected, written))
     sys.stdout.flush()
     if differed:
         sys.exit("programs: %d of %d cases differ" % (differed, agreed + differed))

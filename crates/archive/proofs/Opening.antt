@@ -108,7 +108,8 @@ module _ (s : Schedule) (prefix body : List ℕ) (first count : ℕ) (before : L
 -- ---- opening a range of a job of an accepted file
 
 -- a range of a job's plain bytes is that range of its body under the keystream
-pub range-plain : (s : Schedule) (archive number bytes : List ℕ) (first count : ℕ) → rangeOf first count (underKeystream s archive number bytes)
+pub range-plain : (s : Schedule) (archive number bytes : List ℕ) (first count : ℕ)
+    → rangeOf first count (underKeystream s archive number bytes)
     ≡ addStream (keystream s (prefixOf archive number)) first (rangeOf first count bytes)
 unfolding underKeystream
 range-plain s archive number bytes first count =
@@ -145,7 +146,8 @@ module _ (s : Schedule) (file number : List ℕ) (first count : ℕ) (before : L
 
 module _ (key file number : List ℕ) (first count : ℕ) (before : List ℕ) where
   -- the archive is refused
-  pub opens-refused : (n : ℕ) → n ≡ firstOf (checkCases key file) → (n ≡ 0 → ⊥) → Opens key file number first count before (refused n) before
+  pub opens-refused : (n : ℕ) → n ≡ firstOf (checkCases key file) → (n ≡ 0 → ⊥)
+      → Opens key file number first count before (refused n) before
   unfolding writtenFor openCases findCases
   opens-refused n e h =
       let rest = rangeCases (jobSize file number) first count (length before) in

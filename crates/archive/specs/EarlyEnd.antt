@@ -49,8 +49,8 @@ abbrev pub fullPlainRange : Schedule → List ℕ → List ℕ → ℕ → ℕ �
 fullPlainRange s file number first count =
     rangeOf first count (underKeystream s (archiveNumber file) number (fullBodyOf file number))
 
--- the calls come to what they do over the full search, with case 14 by an order: finding; the body that is handed back; opening a range, and
--- the whole job, into a buffer that held `before`, and what stands there afterwards
+-- the calls come to what they do over the full search, with case 14 by an order: finding; the body that is handed back; opening a range,
+-- and the whole job, into a buffer that held `before`, and what stands there afterwards
 pub record AsFull (order : List ℕ → ℕ) (key file number before : List ℕ) : Type 0 where
   pub finding : findOf key file number ≡ fullFindOf order key file number
   pub body : bodyGiven key file number ≡ fullBodyGiven order key file number

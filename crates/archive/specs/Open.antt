@@ -1,8 +1,8 @@
 -- Opening a job (01, The dryer archive): "A body is its plain bytes xor the forward sealing of counter blocks: archive number (4 bytes),
 -- the eight digits, block index", that is counter mode with the archive number and the digits as prefix. "Opening writes the plain bytes at
 -- the front of a lent buffer, answers how many, and leaves the rest of the buffer unaltered". It takes a range of the job (02, f): "Opening
--- shall take a first byte and a byte count within the job, and writes and counts those plain bytes only." Its refusals are those of finding,
--- then "26, first byte plus count, as whole numbers, passes the job's length", then 20, which "measures the range".
+-- shall take a first byte and a byte count within the job, and writes and counts those plain bytes only." Its refusals are those of
+-- finding, then "26, first byte plus count, as whole numbers, passes the job's length", then 20, which "measures the range".
 -- Assumes nothing.
 use mathlib.Core.Path.{_≡_}
 use mathlib.Core.List.{List, [], _∷_, _++_}

@@ -18,8 +18,8 @@ pub record Joined (i j : ℕ) (after₁ after₂ before : List ℕ) (a : Answer)
   pub bytes : take (i + j) after ≡ take i after₁ ++ take j after₂
   pub rest : drop (i + j) after ≡ drop (i + j) before
 
--- "What two adjoining accepted ranges give, put end to end, is what one opening of both gives in a buffer long enough": any three calls that
--- meet the contract of opening, of the ranges from `first` on and from where that one ends, and of both
+-- "What two adjoining accepted ranges give, put end to end, is what one opening of both gives in a buffer long enough": any three calls
+-- that meet the contract of opening, of m bytes from `first` on, of the n behind them, and of both
 abbrev pub RangesJoin : Type 0
 RangesJoin = (key file number : List ℕ) (first m n : ℕ) (before₁ before₂ before after₁ after₂ after : List ℕ) (i j : ℕ) (a : Answer)
     → Opens key file number first m before₁ (gives i) after₁ → Opens key file number (first + m) n before₂ (gives j) after₂

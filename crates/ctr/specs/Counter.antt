@@ -1,8 +1,8 @@
 -- Counter mode, SP 800-38A section 6.5, with the counter blocks of 01, The dryer archive: "A body is its plain bytes xor the forward
 -- sealing of counter blocks: archive number (4 bytes), the eight digits, block index (4 bytes, from 0). The last block uses as many bytes
 -- as remain." Here the first twelve bytes of a counter block are any prefix. The keystream is defined byte by byte, at every place, so that
--- a run may begin at any byte of it (02, f: "the keystream step underneath gets a first byte of its own"). Encryption and decryption are the
--- one operation.
+-- a run may begin at any byte of it (02, f: "the keystream step underneath gets a first byte of its own"). Encryption and decryption are
+-- the one operation.
 -- Assumes nothing.
 use mathlib.Core.Path.{_≡_}
 use mathlib.Core.List.{List, [], _∷_, _++_}

@@ -26,7 +26,7 @@ fn print_usage() {
     );
     io::write_all(
         STDERR_FILENO,
-        b"opens the job of that number, eight digits, or COUNT bytes of it from byte FIRST on, counted from 0, under the key in key.bin of this folder\n",
+        b"opens the job of that number, eight digits, or COUNT bytes from its byte FIRST on, under the key in key.bin of this folder\n",
     );
 }
 

@@ -18,10 +18,14 @@ enum-known-checked : tie.Need-enum-known-checked
 enum-known-checked c = search needs
 
 returns : tie.Need-returns
-returns c = ap numberIn (sym (ap checkedAs (c .enum-told .given .1)) ∙ c .before .before .check .ensures) ∙ number-answer _ _
+returns c =
+    let told = sym (ap checkedAs (c .enum-told .given .1)) ∙ c .before .before .check .ensures in
+    ap numberIn told ∙ number-answer _ _
 
 returns-2 : tie.Need-returns-2
-returns-2 c = ap numberIn (sym (ap checkedAs (c .before .checked .given .1)) ∙ c .before .before .before .check .ensures) ∙ number-answer _ _
+returns-2 c =
+    let told = sym (ap checkedAs (c .before .checked .given .1)) ∙ c .before .before .before .check .ensures in
+    ap numberIn told ∙ number-answer _ _
 
 pub bench-check-spec : {M : Type 1} → statement M
 bench-check-spec =
