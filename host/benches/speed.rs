@@ -32,12 +32,13 @@ const _: &str = env!(
 
 #[link(name = "benchlib", kind = "static")]
 extern "C" {
-    /// Counter mode on the run in place: 0, or 1 for a key of a wrong length.
+    /// Counter mode on the run in place, from byte `first` of the keystream on: 0, or 1 for a key of a wrong length.
     fn bench_ctr(
         key: *const u8,
         key_len: usize,
         prefix: *const u8,
         prefix_len: usize,
+        first: usize,
         run: *mut u8,
         run_len: usize,
     ) -> u32;
@@ -152,6 +153,7 @@ fn counter_mode<'a>() -> Work<'a> {
                 KEY.len(),
                 PREFIX.as_ptr(),
                 PREFIX.len(),
+                0,
                 bytes.as_mut_ptr(),
                 bytes.len(),
             )
@@ -319,11 +321,16 @@ fn openings(buffer: &mut [u8]) {
             *least = least.min(figure);
         }
     }
-    let [check, range, whole] = best;
-    println!("an archive of {JOBS} jobs, the last of 60 KiB, microseconds a call");
-    println!("the check of key and file     {check:>8.1}");
-    println!("its last KiB, with the check  {range:>8.1}");
-    println!("the whole job, with the check {whole:>8.1}");
+    println!("an archive of {JOBS} jobs, the last of {JOB} bytes, microseconds a call");
+    let last = format!("the last {RANGE} bytes of that job, with the check");
+    let rows = [
+        "the check of key and file",
+        &last,
+        "the whole of that job, with the check",
+    ];
+    for (row, figure) in rows.iter().zip(best) {
+        println!("{row:<48} {figure:>8.1}");
+    }
 }
 
 fn main() {

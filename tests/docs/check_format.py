@@ -47,11 +47,12 @@ FOLLOWED = [
     "The first begins where the directory ends, at 20 + 16 × count;",
     "Plain byte j is therefore body byte j ⊕ byte j mod 16 of E(counter block j div 16).",
     "make the whole check, 1 to 17, first",
-    "a first byte, counted from 0, and a count of bytes.",
-    "first byte plus count exceeds its length; a range of no bytes at the very end is accepted",
+    "first, a byte of the job counted from 0, and count, how many bytes from there on.",
+    "in this order, 26 before 20:",
+    "first plus count exceeds its length; a range of no bytes at the very end is accepted",
     "shorter than the range;",
-    "The plain bytes of the range are bytes first to first + count - 1 of the job's plain bytes.",
-    "only the counter blocks first div 16 to (first + count - 1) div 16,",
+    "The plain bytes of any other are bytes first to first + count - 1 of the job's plain bytes;",
+    "only E(counter block n) for n from first div 16 to (first + count - 1) div 16.",
     "The bits of a byte are numbered 0 to 7, and bit 0 is worth 1.",
     "The inverse of x is the byte whose product with x is `01`; the inverse of `00` is `00`.",
     "S3(S1(x)) = x and S4(S2(x)) = x for every byte x.",
@@ -225,10 +226,10 @@ def faults_of_example(page):
         yield "the keystream is %s" % stream[:5].hex(" ")
     if rows["plain bytes"] != xor(rows["body"], rows["keystream"]) or rows["plain bytes"] != b"dried":
         yield "the plain bytes are %s" % xor(rows["body"], rows["keystream"]).hex(" ")
-    first, count = map(int, re.search(r"The range of that job from byte (\d+) on, (\d+) bytes,", page.text).groups())
+    first, count = map(int, re.search(r"The range of that job with first (\d+) and count (\d+) is", page.text).groups())
     parts = [rows[label][first : first + count].hex(" ") for label in ("body", "keystream", "plain bytes")]
     said = "body `%s`, keystream `%s`, plain bytes `%s`, the text `%s`." % (*parts, bytes.fromhex(parts[2]).decode())
-    if "is bytes %d to %d of the three rows above: %s" % (first, first + count - 1, said) not in page.text:
+    if "is bytes %d to %d of the last three rows: %s" % (first, first + count - 1, said) not in page.text:
         yield "the range should say: %s" % said
 
 

@@ -65,8 +65,9 @@ def figures():
     yield "archives of the model with one byte changed", len(changed)
     yield "random archives of the model", len(chosen)
     yield "distinct ones among all these", len({case.file for case in made + changed + chosen})
-    yield "ranges that `open` is asked for, beside those of each archive", len(list(run.ranges()))
-    yield "calls of `tests/model/ranges.py`", sum(1 for _ in ranges.calls())
+    yield "ranges that `open` is asked for, beside those of each archive", len(list(run.range_questions()))
+    yield "openings of `tests/model/ranges.py`", sum(1 for _ in ranges.openings())
+    yield "its runs of counter mode", sum(1 for _ in ranges.streams())
     faults = programs()
     yield "cases of `tests/programs`", sum(len(list(faults.cases(says))) for says in faults.PROGRAMS)
     yield "self-tests of the model", count(r"^    def test_", "tests/model/selftest.py")
@@ -93,10 +94,11 @@ def main():
     between, end, after = rest.partition(END)
     if not begin or not end:
         sys.exit("%s: the two marks of the figures are not found" % path)
+    counted = table()
     if wanted.write:
         with open(os.path.join(TOP, path), "w", encoding="utf-8") as file:
-            file.write(before + begin + table() + end + after)
-    elif between != table():
+            file.write(before + begin + counted + end + after)
+    elif between != counted:
         sys.exit("%s: the figures are not true; python3 tests/docs/count_tests.py --write %s" % (path, path))
     else:
         print("%s: the figures are true" % path)

@@ -121,8 +121,15 @@ def rust_program(source, dependency, printed, scratch):
     expect("the Rust program's warnings", done.stderr, "")
 
 
+def refusals(text):
+    """The table of refusals has every number that a call here answers, in the order in which they apply."""
+    rows = re.findall(r"^\| (\d+)(?: \*)? \| .+ \| .+ \|$", text, re.M)
+    expect("the numbers of refusals, in order", [int(row) for row in rows], [*range(1, 20), 26, 20])
+
+
 def main():
     text = read(os.path.join(TOP, "README.md"))
+    refusals(text)
     blocks = BLOCK.findall(text)
     kinds = [kind for kind, _ in blocks]
     if re.search(r"^(~~~|    \S)", BLOCK.sub("", text), re.M) or (kinds.count("toml"), kinds.count("rust")) != (1, 1):
@@ -147,7 +154,7 @@ def main():
             if following and not body.startswith("rt "):
                 sys.exit("README.md: nothing here compares what follows\n%s" % body)
             tried += kind in ("sh", "rust")
-    print("README.md: %d commands and examples do what it says" % tried)
+    print("README.md: %d commands and examples do what it says, the refusals stand in order" % tried)
 
 
 if __name__ == "__main__":

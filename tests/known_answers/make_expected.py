@@ -135,28 +135,13 @@ def body(file, number):
     return file[entry.start :][: entry.length]
 
 
-def opened(file, number, room):
-    buffer = FILL * room
+def opened(file, number, buffer, span=()):
+    """What opening answers, and what stands in the buffer then."""
     try:
-        plain = archive.open_job(KEY, file, number, room)
-        return "bytes %d, buffer %s" % (len(plain), (plain + buffer[len(plain) :]).hex())
+        plain = archive.opened(KEY, file, number, span, len(buffer))
+        return "bytes %d" % len(plain), plain + buffer[len(plain) :]
     except archive.Refused as refused:
-        return "refused %d, buffer %s" % (refused.number, buffer.hex())
-
-
-def ranges(file):
-    """Ranges about the ends of the job of five bytes and of the buffers, which a later call finds as an earlier one left them."""
-    buffers = {8: FILL * 8, 2: FILL * 2}
-    for number, first, count, room in RANGES:
-        buffer = buffers[room]
-        try:
-            plain = archive.open_range(KEY, file, number, first, count, room)
-            buffers[room] = buffer = plain + buffer[len(plain) :]
-            answer = "bytes %d" % len(plain)
-        except archive.Refused as refused:
-            answer = "refused %d" % refused.number
-        call = "open %s from %d, count %d, in %d bytes" % (number.decode(), first, count, room)
-        yield call, "%s, buffer %s" % (answer, buffer.hex())
+        return "refused %d" % refused.number, buffer
 
 
 def calls(file):
@@ -168,7 +153,21 @@ def calls(file):
         yield "body of %s" % number.decode(), "'%s'" % body(file, number).hex()
     # one that is not there; three bytes more than the body, then one fewer
     for number, room in ((b"24000019", 8), (b"24000017", 8), (b"24000017", 4)):
-        yield "open %s in %d bytes" % (number.decode(), room), opened(file, number, room)
+        yield "open %s in %d bytes" % (number.decode(), room), "%s, buffer %s" % shown(opened(file, number, FILL * room))
+
+
+def ranges(file):
+    """Ranges about the ends of the job of five bytes and of the buffers, which a later call finds as an earlier one left them."""
+    buffers = {8: FILL * 8, 2: FILL * 2}
+    for number, first, count, room in RANGES:
+        answered = opened(file, number, buffers[room], (first, count))
+        buffers[room] = answered[1]
+        call = "open %s from %d, count %d, in %d bytes" % (number.decode(), first, count, room)
+        yield call, "%s, buffer %s" % shown(answered)
+
+
+def shown(answered):
+    return answered[0], answered[1].hex()
 
 
 def searches():

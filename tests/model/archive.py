@@ -145,6 +145,11 @@ def open_range(key, file, number, first, count, room=LONGEST_FILE):
     return plain[first : first + count]
 
 
+def opened(key, file, number, span=(), room=LONGEST_FILE):
+    """What opening gives of a span, a first byte and a count, or of the whole job where there is none."""
+    return open_range(key, file, number, *span, room) if span else open_job(key, file, number, room)
+
+
 def jobs_text(key, file):
     """What the program `jobs` prints."""
     try:
@@ -162,9 +167,6 @@ def open_output(key, file, number, *words):
     """What the program `open` writes, standard output and standard error, of a number and of the words of a range: none,
     or a first byte and a count in decimal."""
     try:
-        if words:
-            first, count = map(int, words)
-            return open_range(key, file, number, first, count), b""
-        return open_job(key, file, number), b""
+        return opened(key, file, number, tuple(map(int, words))), b""
     except Refused as refused:
         return b"", b"refused %d\n" % refused.number

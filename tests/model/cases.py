@@ -101,6 +101,12 @@ def three_jobs(key=KEYS[16]):
     return Draft(key, 7, numbered([5, 0, 20]))
 
 
+def long_job(key, length):
+    """A job of so many bytes, 24000017, behind one that is no whole number of blocks, and one of no bytes behind it."""
+    jobs = [(b"24000016", text(13)), (b"24000017", text(length)), (b"24000018", b"")]
+    return Draft(key, 0x01020304, jobs).case("a job of %d bytes" % length, 0)
+
+
 def good():
     yield sample().case("sample", 0)
     for length, key in KEYS.items():

@@ -4,6 +4,7 @@ import os
 import shutil
 import subprocess
 import tempfile
+import threading
 import time
 from collections import namedtuple
 
@@ -70,6 +71,9 @@ class Program:
     def from_pipe(self, key, archive, piece, arguments=(), pause=0.001):
         """With the archive through a pipe, in pieces of so many bytes and a pause between them."""
         process = self._start(key, [self.path, *arguments], subprocess.PIPE)
+        # a program that neither reads on nor ends would leave the pipe full
+        limit = threading.Timer(SECONDS, process.kill)
+        limit.start()
         try:
             for at in range(0, len(archive), piece):
                 process.stdin.write(archive[at : at + piece])
@@ -77,4 +81,6 @@ class Program:
                 time.sleep(pause)
         except BrokenPipeError:
             pass  # a program may stop reading once the file is too long
+        finally:
+            limit.cancel()
         return finished(process)

@@ -1,13 +1,15 @@
-"""Holds the opening of whole jobs and of ranges to the model, call by call, with the buffer that is lent.
+"""Holds the opening of whole jobs and of ranges, and counter mode from any first byte on, to the model, call by call.
 
     python3 tests/model/ranges.py [target/staticlib/libbenchlib.a]
 
 The calls are those that `rt staticlib benchlib` exports; a shared library is made of it, and called in this process. Of each call the
-number is compared, every byte of the buffer, and the bytes behind it, which nobody lent. The last line is `archive ranges: N calls agree`,
-or the first call that differs, and then the exit status is 1.
+number is compared, every byte that was lent, and bytes before and behind them, which nobody lent; the buffers begin at every place in
+memory modulo 16. How many bytes an opening counts these calls do not tell; the program `open` and `known_answers` show it. The last line
+is `archive ranges: N calls agree`, or the first call that differs, and then the exit status is 1.
 """
 
 import ctypes
+import faulthandler
 import os
 import subprocess
 import sys
@@ -15,18 +17,21 @@ import tempfile
 
 import archive
 import cases
+import libcrypto
 
 TOP = os.path.join(os.path.dirname(os.path.abspath(__file__)), "..", "..")
 LIBRARY = os.path.join(TOP, "target", "staticlib", "libbenchlib.a")
+# Seconds until all of it is taken to hang.
+PATIENCE = 600
 # How many bytes of the keystream the code makes at a time.
 CHUNK = 4096
-# What a buffer holds before a call, and how many bytes behind it are watched.
+# What a buffer holds before a call, and how many bytes on either side of it are watched.
 FILL = b"\xa5"
-BEHIND = 32
+BESIDE = 32
 # Longer than three chunks, and of no whole number of blocks.
 LENGTH = 3 * CHUNK + 37
-HUGE = [2**k + d for k in (31, 32, 33, 60, 63, 64) for d in (-17, -16, -1, 0, 1, 16)]
-HUGE = [n for n in HUGE if n < 2**64]
+# First bytes and counts about powers of 2; 2^36 bytes are 2^32 blocks.
+HUGE = [2**k + d for k in (31, 32, 33, 36, 60, 63, 64) for d in (-17, -16, -1, 0, 1, 16) if 2**k + d < 2**64]
 
 
 class Library:
@@ -37,43 +42,60 @@ class Library:
         flags = ["-shared", "-Wl,-z,defs,-z,text", "-Wl,--whole-archive", path, "-Wl,--no-whole-archive"]
         subprocess.run(["cc", *flags, "-o", shared], check=True)
         library = ctypes.CDLL(shared)
-        part = [ctypes.c_char_p, ctypes.c_size_t]
+        part, size = [ctypes.c_char_p, ctypes.c_size_t], ctypes.c_size_t
         lent = [ctypes.c_void_p, ctypes.c_size_t]
-        self.whole, self.range, self.checked = library.bench_open, library.bench_open_range, library.bench_check
-        self.checked.argtypes = 2 * part
-        self.whole.argtypes = 3 * part + lent
-        self.range.argtypes = 3 * part + [ctypes.c_size_t, ctypes.c_size_t] + lent
-        for call in (self.whole, self.range, self.checked):
-            call.restype = ctypes.c_uint32
+        arguments = {
+            "bench_check": 2 * part,
+            "bench_open": 3 * part + lent,
+            "bench_open_range": 3 * part + [size, size] + lent,
+            "bench_ctr": 2 * part + [size] + lent,
+        }
+        for name, types in arguments.items():
+            getattr(library, name).argtypes = types
+            getattr(library, name).restype = ctypes.c_uint32
+        self.library = library
+        self.calls = 0
 
-    def opened(self, case, number, words, room):
-        """The refusal or 0, and what stands in the buffer and behind it afterwards."""
-        buffer = ctypes.create_string_buffer(FILL * (room + BEHIND), room + BEHIND)
-        parts = [case.key, len(case.key), case.file, len(case.file), number, len(number)]
-        call = self.range if words else self.whole
-        return call(*parts, *words, ctypes.addressof(buffer), room), buffer.raw
+    def lend(self, name, arguments, held):
+        """The number that a call answers on a buffer that held these bytes, and what it then holds."""
+        self.calls += 1
+        place = BESIDE + self.calls % 16
+        memory = ctypes.create_string_buffer(FILL * place + held + FILL * BESIDE, place + len(held) + BESIDE)
+        number = getattr(self.library, name)(*arguments, ctypes.addressof(memory) + place, len(held))
+        if memory.raw[:place] != FILL * place or memory.raw[place + len(held) :] != FILL * BESIDE:
+            return number, b"bytes written beside the buffer"
+        return number, memory.raw[place : place + len(held)]
+
+    def opened(self, case, number, span, room):
+        name = "bench_open_range" if span else "bench_open"
+        return self.lend(name, (*sized(case.key, case.file, number), *span), FILL * room)
+
+    def checked(self, case):
+        self.calls += 1
+        return self.library.bench_check(*sized(case.key, case.file))
+
+    def streamed(self, key, prefix, first, run):
+        return self.lend("bench_ctr", (*sized(key, prefix), first), run)
 
 
-def expected(case, number, words, room):
-    """The same by the model."""
-    buffer = FILL * (room + BEHIND)
+def sized(*slices):
+    return [argument for each in slices for argument in (each, len(each))]
+
+
+def expected(case, number, span, room):
+    """The same by the model: the refusal or 0, and the buffer."""
+    buffer = FILL * room
     try:
-        if words:
-            plain = archive.open_range(case.key, case.file, number, *words, room)
-        else:
-            plain = archive.open_job(case.key, case.file, number, room)
+        plain = archive.opened(case.key, case.file, number, span, room)
     except archive.Refused as refused:
         return refused.number, buffer
     return 0, plain + buffer[len(plain) :]
 
 
-def long_archive(key):
-    """A job of LENGTH bytes behind one that is no whole number of blocks, and one behind it."""
-    jobs = [(b"24000016", cases.text(13)), (b"24000017", cases.text(LENGTH)), (b"24000018", b"")]
-    return cases.Draft(key, 0x01020304, jobs).case("a job of %d bytes" % LENGTH, 0)
+# ---- openings
 
 
-def ranges():
+def long_ranges():
     """Ranges of the long job, as first byte and count."""
     # every start and every end within three blocks
     yield from ((first, count) for first in range(48) for count in range(49))
@@ -103,11 +125,11 @@ def rooms():
                     yield first, count, room
 
 
-def calls():
-    """Each call: the case, the job number, the words of a range or none for the whole job, and the buffer's length."""
+def openings():
+    """Each call: the case, the job number, the range or none for the whole job, and the buffer's length."""
     for key in cases.KEYS.values():
-        case = long_archive(key)
-        for first, count in ranges():
+        case = cases.long_job(key, LENGTH)
+        for first, count in long_ranges():
             yield case, b"24000017", (first, count), min(count, LENGTH) + 3
         for first, count, room in rooms():
             yield case, b"24000017", (first, count), room
@@ -115,38 +137,78 @@ def calls():
             yield case, b"24000017", (), room
         # the jobs beside it, one that is not there, and words that are no number
         for number in (b"24000016", b"24000018", b"24000019", b"2400001", b"", b"2400001/"):
-            for words in ((), (0, 0), (0, 1), (0, 13), (1, 12), (1, 13), (13, 0), (14, 0), (2**64 - 1, 1), (9, 2**64 - 1)):
+            for span in ((), (0, 0), (0, 1), (0, 13), (1, 12), (1, 13), (13, 0), (14, 0), (2**64 - 1, 1), (9, 2**64 - 1)):
                 for room in (0, 1, 12, 13):
-                    yield case, number, words, room
-    # archives that are refused: whatever the range and the buffer, with their own number
+                    yield case, number, span, room
+    # every archive of the model: where it is refused, with its own number, whatever the number, the range and the buffer
     for case in cases.made():
         if case.key is not None and (len(case.file) < CHUNK or case.refusal == 6):
-            for number in (b"24000017", b"24000018", b"240000170"):
-                for words in ((), (0, 0), (0, 3), (2, 2), (6, 0), (2**64 - 1, 1)):
-                    yield case, number, words, 4
+            for number in (b"24000017", b"240000170"):
+                for span in ((), (0, 3), (2, 2), (6, 0), (2**64 - 1, 1)):
+                    for room in (0, 1, 40):
+                        yield case, number, span, room
+
+
+# ---- counter mode
+
+
+def keystream(key, prefix, first, length):
+    """The keystream from byte `first` on, its block index modulo 2^32: each counter block by itself through libcrypto."""
+    block, offset = first // 16, first % 16
+    counters = ((block + i) % 2**32 for i in range((offset + length + 15) // 16))
+    return libcrypto.forward(key, b"".join(prefix + index.to_bytes(4, "big") for index in counters))[offset : offset + length]
+
+
+def streams():
+    """Each call: the key, the prefix, the first byte, and the run."""
+    prefix = b"twelve bytes"
+    for key in (*cases.KEYS.values(), b"", bytes(15), bytes(17), bytes(33)):
+        for first in [*range(0, 34), CHUNK - 1, CHUNK, CHUNK + 1, *HUGE]:
+            for length in (0, 1, 15, 16, 17, 33, CHUNK - 1, CHUNK, CHUNK + 17):
+                yield key, prefix, first, cases.text(length)
+
+
+def streamed(key, prefix, first, run):
+    """What counter mode answers and leaves, by libcrypto."""
+    if len(key) not in cases.KEYS:
+        return 1, run
+    return 0, archive.exclusive_or(run, keystream(key, prefix, first, len(run)))
+
+
+# ---- all of them
+
+
+def compare(what, given, wanted):
+    if given != wanted:
+        at = next((i for i, (a, b) in enumerate(zip(given[1], wanted[1])) if a != b), min(len(given[1]), len(wanted[1])))
+        sys.exit("archive ranges: %s: %s in place of %s, byte %d differs or is missing" % (what, given[0], wanted[0], at))
 
 
 def main():
     path = os.path.abspath(sys.argv[1] if len(sys.argv) > 1 else LIBRARY)
     if not os.path.isfile(path):
         sys.exit("%s is missing: rt staticlib benchlib" % path)
-    agreed, met = 0, set()
+    # a call that never returns, or writes where nothing is, ends with the place in this file
+    faulthandler.enable()
+    faulthandler.dump_traceback_later(PATIENCE, exit=True)
+    met = set()
     with tempfile.TemporaryDirectory(prefix="ranges-") as folder:
         library = Library(path, folder)
         for case in cases.made():
-            if case.key is not None and library.checked(case.key, len(case.key), case.file, len(case.file)) != case.refusal:
-                sys.exit("archive ranges: %s is not refused with %d" % (case.name, case.refusal))
-        for case, number, words, room in calls():
-            wanted, given = expected(case, number, words, room), library.opened(case, number, words, room)
-            if given != wanted:
-                at = next((i for i, (a, b) in enumerate(zip(given[1], wanted[1])) if a != b), None)
-                what = "%s, job %r, range %s, %d bytes of room" % (case.name, number, words, room)
-                sys.exit("archive ranges: %s: %d in place of %d, first other byte %s" % (what, given[0], wanted[0], at))
-            agreed += 1
+            if case.key is not None:
+                compare("the check of %s" % case.name, (library.checked(case), b""), (case.refusal, b""))
+        for case, number, span, room in openings():
+            wanted = expected(case, number, span, room)
+            what = "%s, job %r, range %s, %d bytes of room" % (case.name, number, span, room)
+            compare(what, library.opened(case, number, span, room), wanted)
             met.add(wanted[0])
+        for key, prefix, first, run in streams():
+            what = "counter mode, key of %d bytes, first byte %d, %d bytes" % (len(key), first, len(run))
+            compare(what, library.streamed(key, prefix, first, run), streamed(key, prefix, first, run))
+    faulthandler.cancel_dump_traceback_later()
     if met != {0, 1} | set(range(5, 21)) | {26}:
         sys.exit("archive ranges: of the refusals only %s were met" % sorted(met))
-    print("archive ranges: %d calls agree" % agreed)
+    print("archive ranges: %d calls agree" % library.calls)
 
 
 if __name__ == "__main__":

@@ -160,16 +160,6 @@ class Ranges(unittest.TestCase):
                     plain = libcrypto.counter(key, block, bytes(skipped) + body[first : first + count])[skipped:]
                     self.assertEqual(archive.open_range(key, file, entry.digits, first, count), plain)
 
-    def test_adjoining_ranges_join(self):
-        key, jobs = cases.KEYS[16], cases.numbered([40])
-        file, (number, plain) = cases.Draft(key, 7, jobs).file(), jobs[0]
-        for first in range(41):
-            for m in range(41 - first):
-                for n in range(41 - first - m):
-                    both = archive.open_range(key, file, number, first, m) + archive.open_range(key, file, number, first + m, n)
-                    self.assertEqual(both, archive.open_range(key, file, number, first, m + n, m + n))
-        self.assertEqual(archive.open_range(key, file, number, 0, 40), plain)
-
     def test_refusals_and_their_order(self):
         sample = cases.sample()
         key, file = sample.key, sample.file()

@@ -24,7 +24,7 @@ HERE = os.path.dirname(os.path.abspath(__file__))
 SAMPLE = os.path.join(HERE, "..", "..", "examples", "sample")
 sys.path.insert(0, os.path.join(HERE, "..", "model"))
 
-from program import SECONDS, Written, finished  # noqa: E402
+from program import Written, finished  # noqa: E402
 
 # What a program says, by its name, and what it writes of the sample when nothing goes wrong.
 Says = namedtuple("Says", "name words output could_not_read could_not_write usage")
@@ -44,7 +44,7 @@ OPEN = Says(
     b"open: could not read\n",
     b"open: could not write\n",
     b"usage: open NUMBER [FIRST COUNT] < ARCHIVE > PLAIN\n"
-    b"opens the job of that number, eight digits, or COUNT bytes from its byte FIRST on, under the key in key.bin of this folder\n",
+    b"opens that job, eight digits, or COUNT bytes of it from byte FIRST on, counted from 0, under the key in key.bin of this folder\n",
 )
 # The same program, asked for a range.
 OPEN_RANGE = OPEN._replace(words=("24000017", "1", "3"), output=b"rie")
@@ -98,6 +98,29 @@ class Folder:
                 command, cwd=self.path, env=environment, stdin=stdin, stdout=stdout, stderr=subprocess.PIPE
             )
             return finished(process)
+
+
+def at_terminal(f, words, typed):
+    """With a terminal for standard input, on which this is typed."""
+    here, there = pty.openpty()
+    try:
+        os.write(here, typed)
+        return f.run(words, stdin=there)
+    finally:
+        os.close(here)
+        os.close(there)
+
+
+def unread(f, words):
+    """A program that opens the key, or reads the input, waits for what never comes."""
+    os.remove(f.file("key.bin"))
+    os.mkfifo(f.file("key.bin"))
+    reader, writer = os.pipe()
+    try:
+        return f.run(words, stdin=reader)
+    finally:
+        os.close(reader)
+        os.close(writer)
 
 
 def whole(says):
@@ -235,37 +258,30 @@ def key_files(says):
 def terminals(says):
     """At a terminal a hint comes first, and changes nothing else: an end of input there is an empty archive."""
 
-    def at_terminal(f, typed):
-        here, there = pty.openpty()
-        try:
-            os.write(here, typed)
-            return f.run(says.words, stdin=there)
-        finally:
-            os.close(here)
-            os.close(there)
-
     def archive_typed(f):
         """An end-of-input key hands the line over first, and ends the input where the line is empty."""
         with open(f.file("archive.bin"), "rb") as file:
-            return at_terminal(f, file.read() + b"\x04\x04")
+            return at_terminal(f, says.words, file.read() + b"\x04\x04")
 
     def before_typing(f):
         """The hint is there while the program still waits."""
         here, there = pty.openpty()
-        with subprocess.Popen(
+        process = subprocess.Popen(
             [f.program, *says.words], cwd=f.path, stdin=there, stdout=subprocess.PIPE, stderr=subprocess.PIPE
-        ) as process:
-            hint = b""
-            while len(hint) < len(says.usage) and select.select([process.stderr], [], [], PATIENCE)[0]:
-                hint += os.read(process.stderr.fileno(), len(says.usage)) or b" and no more"
-            os.write(here, b"\x04")
-            out, err = process.communicate(timeout=SECONDS)
+        )
+        hint = b""
+        while len(hint) < len(says.usage) and select.select([process.stderr], [], [], PATIENCE)[0]:
+            hint += os.read(process.stderr.fileno(), len(says.usage)) or b" and no more"
+        if len(hint) < len(says.usage):
+            hint += b" and no more while it waits"
+        os.write(here, b"\x04")
+        written = finished(process)
         os.close(here)
         os.close(there)
-        return Written(out, hint + err, process.returncode)
+        return written._replace(stderr=hint + written.stderr)
 
     empty = refused(says, 5)
-    yield "at a terminal", empty._replace(stderr=says.usage + empty.stderr), lambda f: at_terminal(f, b"\x04")
+    yield "at a terminal", empty._replace(stderr=says.usage + empty.stderr), lambda f: at_terminal(f, says.words, b"\x04")
     yield "at a terminal, before a word is typed", empty._replace(stderr=says.usage + empty.stderr), before_typing
     yield "archive typed at a terminal", Written(says.output, says.usage, 0), archive_typed
 
@@ -280,39 +296,39 @@ def words_of_open(says):
     # no word, a first byte without a count, and more words than are taken
     for words in ([], ["24000017", "24000018"], ["24000017", "0"], ["24000017", ""], ["24000017", "0", "5", "0"], ["24000017"] * 5):
         yield "words %s" % words, usage, lambda f, words=words: f.run(words)
+        yield "words %s, nothing read" % words, usage, lambda f, words=words: unread(f, words)
+        yield "words %s, at a terminal" % words, usage, lambda f, words=words: at_terminal(f, words, b"\x04")
     for words in ([""], ["--help"], ["2400001"], ["240000170"], ["2" * 5000]):
         yield "word %.20s" % words, refused(says, 18), lambda f, words=words: f.run(words)
     yield "a job of no bytes", Written(b"", b"", 0), lambda f: f.run(["24000018"])
 
 
-# Words that are no number from 0 to 2^64 - 1 in decimal, or longer than 20 bytes.
-NO_NUMBERS = ["", " ", "-", "+", "-1", "+1", " 1", "1 ", "1\n", "1.0", "1e1", "0x1", "1,000", "a", "1a", "a1", "/", ":", "0/", "0:", "\u0661"]
-NO_NUMBERS += [str(2**64), str(2**64 + 1), str(2**64 + 10), str(10**20 - 1), "99999999999999999999"]
+# Words that are no number from 0 to 2^64 - 1 in decimal, or longer than 20 bytes. Of those past 2^64 some are lower modulo 2^64 than
+# without their last digit, and some are not.
+NO_NUMBERS = ["", " ", "-", "+", "-1", "+1", " 1", "1 ", "1\n", "1.0", "1e1", "0x1", "1,000", "a", "1a", "a1", "/", ":", "0/", "0:"]
+NO_NUMBERS += [b"\xd9\xa1", b"\xff", b"1\xb1"]
+NO_NUMBERS += [str(2**64 + past) for past in (0, 1, 9, 10)] + [str(digit) + "0" * 19 for digit in range(2, 10)] + [str(10**20 - 1)]
 NO_NUMBERS += ["0" * 21, "0" * 20 + "1", "1" + "0" * 20, "1" * 21, "1" * 22, "0" * 5000]
 
 
 def words_of_ranges(says):
     """Two further words are numbers, or the usage is all that is written: whatever the job number, the archive and the key."""
     usage = Written(b"", says.usage, 0)
-
-    def unread(f, words):
-        """Neither key nor archive is looked at where the words are not taken."""
-        os.remove(f.file("key.bin"))
-        return f.run(words, shell="<&-")
-
     for word in NO_NUMBERS:
         for words in (["24000017", word, "1"], ["24000017", "1", word], ["24000017", word, word]):
             yield "words %.60s" % words, usage, lambda f, words=words: f.run(words)
-    yield "a bad job number and a bad range", usage, lambda f: f.run(["2400001", "x", "1"])
-    yield "a bad range, no key and no archive", usage, lambda f: unread(f, ["24000017", "1", "-1"])
-    yield "a range, no key and no archive", refused(says, 1), lambda f: unread(f, ["24000017", "1", "3"])
+    for words in (["24000017", "x", "1"], ["24000017", "1", "-1"], ["2400001", "x", "1"]):
+        yield "words %s, nothing read" % words, usage, lambda f, words=words: unread(f, words)
+        yield "words %s, at a terminal" % words, usage, lambda f, words=words: at_terminal(f, words, b"\x04")
     zeros = ("0" * 19 + "1", "0" * 19 + "3")
-    for first, count, wanted in (("0", "5", b"dried"), ("00", "05", b"dried"), (*zeros, b"rie"), ("0", "0", b""), ("5", "0", b""), ("4", "1", b"d")):
+    good = [("0", "5", b"dried"), ("00", "05", b"dried"), (*zeros, b"rie"), ("0", "0", b""), ("5", "0", b""), ("4", "1", b"d")]
+    for first, count, wanted in good:
         yield "range %s %s" % (first, count), Written(wanted, b"", 0), (
             lambda f, first=first, count=count: f.run(["24000017", first, count])
         )
     most = str(2**64 - 1)
-    for first, count in (("0", "6"), ("1", "5"), ("5", "1"), ("6", "0"), ("0", most), ("1", most), (most, "0"), (most, "1"), (most, most)):
+    past = [("0", "6"), ("1", "5"), ("5", "1"), ("6", "0"), ("0", most), ("1", most), (most, "0"), (most, "1"), (most, most)]
+    for first, count in past:
         yield "range %s %s" % (first, count), refused(says, 26), (
             lambda f, first=first, count=count: f.run(["24000017", first, count])
         )

@@ -1,6 +1,6 @@
 -- Finding, the body and opening come to what they do over the full search: a refused archive is not searched, and an accepted one ascends.
 -- Assumes nothing.
-use mathlib.Core.Path.{_≡_, refl, sym, ap, _∙_}
+use mathlib.Core.Path.{_≡_, refl, sym, ap, ap₂, _∙_}
 use mathlib.Core.Bool.{not}
 use mathlib.Core.List.{List, [], _∷_, _++_, append-assoc}
 use Prim.Native.Nat.{ℕ, zero, suc}
@@ -20,9 +20,10 @@ use Rattle.directory.proofs.Accepted.{sound-directories}
 use Rattle.directory.proofs.EarlyEnd.{index-full}
 use Rattle.archive.specs.Check.{checkCases}
 use Rattle.archive.specs.Find.{numberCases, findCases, bodyAt}
-use Rattle.archive.specs.Open.{underKeystream, rangeOf, rangeCases, openCases}
-use Rattle.archive.specs.EarlyEnd.{fullFindCases, fullOpenCases, UnchangedArchives}
+use Rattle.archive.specs.Open.{underKeystream, rangeOf, roomCases, rangeCases, openCases}
+use Rattle.archive.specs.EarlyEnd.{fullFindCases, fullOpenCases, fullRangeCases, UnchangedArchives}
 use Rattle.archive.proofs.Accepted.{accepted-directory}
+use Rattle.archive.proofs.Ranges.{whole-jobs}
 
 module _ (key file number before : List ℕ) where
   -- what each comes to where the search has come to index i
@@ -32,29 +33,24 @@ module _ (key file number before : List ℕ) where
   abbrev findAt : ℕ → Answer
   findAt i = answer (firstOf (checkCases key file ++ casesAt i)) i
 
-  -- of opening, the range may depend on the entry: all of its bytes, or so many
-  module _ (first : ℕ) (count : ℕ → ℕ) where
-    abbrev lastAt : ℕ → List Case
-    lastAt i = rangeCases (length (bodyAt file i)) first (count i) (length before)
-
+  -- of opening, whatever the last cases are, what it gives and which bytes
+  module _ (last : ℕ → List Case) (count : ℕ → ℕ) (plain : ℕ → List ℕ) where
     abbrev openAt : ℕ → Answer
-    openAt i = answer (firstOf ((checkCases key file ++ casesAt i) ++ lastAt i)) (count i)
+    openAt i = answer (firstOf ((checkCases key file ++ casesAt i) ++ last i)) (count i)
 
     abbrev writtenAt : ℕ → List ℕ
-    writtenAt i =
-        writtenFor (openAt i)
-        (rangeOf first (count i) (underKeystream (scheduleOf key) (archiveNumber file) number (bodyAt file i))) before
+    writtenAt i = writtenFor (openAt i) (plain i) before
 
   -- a refused archive: the index does not matter
   module _ (refuses : firstOf (checkCases key file) ≡ 0 → ⊥) where
     find-refused : (i : ℕ) → findAt i ≡ refused (firstOf (checkCases key file))
     find-refused i = answer-first (checkCases key file) (casesAt i) i refuses
 
-    open-refused : (first : ℕ) (count : ℕ → ℕ) (i : ℕ) → openAt first count i ≡ refused (firstOf (checkCases key file))
-    open-refused first count i =
-        let rest = lastAt first count i in
-        ap (λ (c : List Case). answer (firstOf c) (count i)) (append-assoc (checkCases key file) (casesAt i) rest)
-        ∙ answer-first (checkCases key file) (casesAt i ++ rest) (count i) refuses
+    module _ (last : ℕ → List Case) (count : ℕ → ℕ) (plain : ℕ → List ℕ) where
+      open-refused : (i : ℕ) → openAt last count plain i ≡ refused (firstOf (checkCases key file))
+      open-refused i =
+          ap (λ (c : List Case). answer (firstOf c) (count i)) (append-assoc (checkCases key file) (casesAt i) (last i))
+          ∙ answer-first (checkCases key file) (casesAt i ++ last i) (count i) refuses
 
   -- so any two indices will do, if they are the same where the archive is accepted
   module _ (i j : ℕ) (same : firstOf (checkCases key file) ≡ 0 → i ≡ j) where
@@ -68,31 +64,39 @@ module _ (key file number before : List ℕ) where
     find-alike : findAt i ≡ findAt j
     find-alike = alike findAt (λ r. find-refused r i ∙ sym (find-refused r j))
 
-    open-alike : (first : ℕ) (count : ℕ → ℕ) → openAt first count i ≡ openAt first count j
-    open-alike first count =
-        alike (openAt first count) (λ r. open-refused r first count i ∙ sym (open-refused r first count j))
+    module _ (last : ℕ → List Case) (count : ℕ → ℕ) (plain : ℕ → List ℕ) where
+      open-alike : openAt last count plain i ≡ openAt last count plain j
+      open-alike =
+          alike (openAt last count plain) (λ r. open-refused r last count plain i ∙ sym (open-refused r last count plain j))
 
-    written-alike : (first : ℕ) (count : ℕ → ℕ) → writtenAt first count i ≡ writtenAt first count j
-    unfolding writtenFor
-    written-alike first count =
-        alike (writtenAt first count) (λ r. rw (open-refused r first count i, open-refused r first count j))
+      written-alike : writtenAt last count plain i ≡ writtenAt last count plain j
+      unfolding writtenFor
+      written-alike =
+          alike (writtenAt last count plain) (λ r. rw (open-refused r last count plain i, open-refused r last count plain j))
 
   same-index : firstOf (checkCases key file) ≡ 0 → indexOf (directoryOf file) number ≡ fullIndexOf (directoryOf file) number
   same-index e = index-full (directoryOf file) number (sound-directories _ _ _ (accepted-directory orderOf key file e) .ascending)
 
 pub unchanged-archives : UnchangedArchives
-unfolding searchCases numberCases findCases openCases fullSearchCases fullFindCases fullOpenCases
+unfolding searchCases numberCases findCases openCases fullSearchCases fullFindCases fullOpenCases fullRangeCases
 unchanged-archives key file number before =
     let i : ℕ = indexOf (directoryOf file) number in
     let j : ℕ = fullIndexOf (directoryOf file) number in
     let same = same-index key file number before in
     let found = find-alike key file number before i j same in
     let size : ℕ → ℕ = λ (k : ℕ). length (bodyAt file k) in
+    let room : ℕ → List Case = λ (k : ℕ). roomCases (size k) (length before) in
+    let plain : ℕ → List ℕ = λ (k : ℕ). underKeystream (scheduleOf key) (archiveNumber file) number (bodyAt file k) in
+    let whole = whole-jobs key file number (length before) in
+    let range : ℕ → ℕ → ℕ → List Case = λ (first count k : ℕ). rangeCases (size k) first count (length before) in
+    let part : ℕ → ℕ → ℕ → List ℕ = λ (first count k : ℕ). rangeOf first count (plain k) in
     record {
       finding = found;
       body = ap (λ (a : Answer). partFor a (bodyAt file)) found;
-      opening = λ first count. open-alike key file number before i j same first (λ (k : ℕ). count);
-      bytes = λ first count. written-alike key file number before i j same first (λ (k : ℕ). count);
-      whole = open-alike key file number before i j same 0 size;
-      wholeBytes = written-alike key file number before i j same 0 size;
+      opening = whole .answered ∙ open-alike key file number before i j same room size plain;
+      bytes =
+          ap₂ (λ (a : Answer) (l : List ℕ). writtenFor a l before) (whole .answered) (whole .bytes (scheduleOf key))
+          ∙ written-alike key file number before i j same room size plain;
+      ranging = λ first count. open-alike key file number before i j same (range first count) (λ (k : ℕ). count) (part first count);
+      rangeBytes = λ first count. written-alike key file number before i j same (range first count) (λ (k : ℕ). count) (part first count);
     }

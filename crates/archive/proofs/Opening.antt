@@ -2,7 +2,7 @@
 -- Assumes nothing.
 use mathlib.Core.Path.{_≡_, refl, sym, ap, ap₂, _∙_, subst}
 use mathlib.Core.Bool.{Bool, true, false}
-use mathlib.Core.List.{List, [], _∷_, _++_, append-assoc}
+use mathlib.Core.List.{List, _++_, append-assoc}
 use Prim.Native.Nat.{ℕ, _+_, _-_, _<_, _≤_}
 use native.Mathlib.Nat.{zero-add}
 use native.Mathlib.Omega.{arith}
@@ -10,7 +10,7 @@ use borrow.Author.Tests.{lt-ltb, le-ltb, ltb-true, ltb-false}
 use lib.Dec.{ltb}
 use lib.ListN.{length, take, drop, length-append, length-take, length-drop}
 use lib.Seq.{take-at, drop-at}
-use Rattle.refusals.specs.Cases.{when, firstOf, positive}
+use Rattle.refusals.specs.Cases.{firstOf, positive}
 use Rattle.refusals.specs.Answers.{Answer, refused, gives, answer, writtenFor}
 use Rattle.refusals.proofs.Cases.{skip, stop, clear, first-pass, first-none, positive-append}
 use Rattle.refusals.proofs.Answers.{answer-gives, answer-number, answer-none, answer-first, refusal-is}
@@ -23,7 +23,7 @@ use Rattle.jobnumber.specs.Number.{orderOf}
 use Rattle.directory.specs.Search.{indexOf}
 use Rattle.archive.specs.Check.{checkCases}
 use Rattle.archive.specs.Find.{numberCases, findCases, bodyAt}
-use Rattle.archive.specs.Open.{prefixOf, underKeystream, bodyOf, plainOf, jobSize, rangeOf, plainRange, rangeCases}
+use Rattle.archive.specs.Open.{prefixOf, underKeystream, bodyOf, plainOf, jobSize, rangeOf, plainRange, roomCases, rangeCases}
 use Rattle.archive.specs.Open.{openCases, openOf, Opens}
 use Rattle.archive.specs.Internal.{OpensBody, OpensJob, lookupOf}
 use Rattle.archive.proofs.Checking.{check-positive}
@@ -42,35 +42,35 @@ past-count size first count l = go (ltb (size - first) count) refl
     go true e = e ∙ sym (lt-ltb size (first + count) (omega (arith, ltb-true (size - first) count e)))
     go false e = e ∙ sym (le-ltb size (first + count) (omega (arith, ltb-false (size - first) count e)))
 
-pub range-positive : (size first count room : ℕ) → positive (rangeCases size first count room) ≡ true
-unfolding rangeCases positive
+range-positive : (size first count room : ℕ) → positive (rangeCases size first count room) ≡ true
+unfolding rangeCases roomCases positive
 range-positive size first count room = refl
 
 range-past : (size first count room : ℕ) → ltb size (first + count) ≡ true → firstOf (rangeCases size first count room) ≡ 26
-unfolding rangeCases
+unfolding rangeCases roomCases
 range-past size first count room e = stop (rangeCases size first count room) 0 e
 
 range-short : (size first count room : ℕ) → ltb size (first + count) ≡ false → room < count
     → firstOf (rangeCases size first count room) ≡ 20
-unfolding rangeCases
+unfolding rangeCases roomCases
 range-short size first count room e l =
     skip (rangeCases size first count room) 0 e ∙ stop (rangeCases size first count room) 1 (lt-ltb room count l)
 
 range-good : (size first count room : ℕ) → first + count ≤ size → count ≤ room → firstOf (rangeCases size first count room) ≡ 0
-unfolding rangeCases firstOf
+unfolding rangeCases roomCases firstOf
 range-good size first count room l m =
     skip (rangeCases size first count room) 0 (le-ltb size (first + count) l)
     ∙ skip (rangeCases size first count room) 1 (le-ltb room count m)
 
 range-clear : (size first count room : ℕ) → firstOf (rangeCases size first count room) ≡ 0 → (first + count ≤ size) × (count ≤ room)
-unfolding rangeCases
+unfolding rangeCases roomCases
 range-clear size first count room e =
     let none = clear (rangeCases size first count room) (range-positive size first count room) e in
     (ltb-false _ _ (none 0), ltb-false _ _ (none 1))
 
 -- all of the job's bytes: 20 is left
-pub range-whole : (size room : ℕ) → firstOf (rangeCases size 0 size room) ≡ firstOf (when (ltb room size) 20 ∷ [])
-unfolding rangeCases
+pub range-whole : (size room : ℕ) → firstOf (rangeCases size 0 size room) ≡ firstOf (roomCases size room)
+unfolding rangeCases roomCases
 range-whole size room = skip (rangeCases size 0 size room) 0 (le-ltb size (0 + size) (omega arith))
 
 -- a range within so many bytes has as many as it says

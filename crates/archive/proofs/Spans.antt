@@ -3,11 +3,11 @@
 -- Assumes nothing.
 use mathlib.Core.Path.{_≡_, refl, sym, ap, _∙_}
 use mathlib.Core.Bool.{true}
-use mathlib.Core.List.{List}
+use mathlib.Core.List.{List, _++_}
 use Prim.Native.Nat.{ℕ}
 use native.Mathlib.Omega.{arith}
 use lib.ListN.{length}
-use Rattle.refusals.specs.Cases.{firstOf, positive}
+use Rattle.refusals.specs.Cases.{Case, firstOf, positive}
 use Rattle.refusals.specs.Answers.{Answer, refused, answer, partFor, writtenFor}
 use Rattle.refusals.specs.Shared.{keyCases}
 use Rattle.refusals.proofs.Answers.{answer-gives, refusal-is}
@@ -22,9 +22,9 @@ use Rattle.directory.specs.Check.{directoryCasesBy}
 use Rattle.directory.specs.EarlyEnd.{fullIndexOf, fullSearchCases}
 use Rattle.directory.proofs.Spans.{same-span, mixed-span}
 use Rattle.archive.specs.Check.{keyCheck, fileCasesBy, checkCases, checkCasesBy}
-use Rattle.archive.specs.EarlyEnd.{fullFindCases, fullJobSize, fullOpenCases, fullOpenOf, fullPlainRange}
+use Rattle.archive.specs.EarlyEnd.{fullFindCases, fullBodyOf, fullOpenCases, fullOpenOf, fullPlainOf, fullRangeCases, fullRangeOf}
 use Rattle.archive.specs.Find.{bodyAt}
-use Rattle.archive.specs.Open.{plainRange, openOf}
+use Rattle.archive.specs.Open.{rangeOf, plainRange, roomCases, rangeCases, openOf}
 use Rattle.archive.specs.Spans.{SameSpanArchives, AllRefuse, MixedSpanArchives}
 use Rattle.archive.proofs.Accepted.{accepted-directory, accepted-directory-by}
 use Rattle.archive.proofs.Checking.{check-positive}
@@ -54,43 +54,41 @@ module _ (o p : List ℕ → ℕ) (key file : List ℕ) where
     unfolding fullFindCases fullSearchCases positive
     find-positive order = positive-append (checkCasesBy order key file) _ (check-positive order key file) refl
 
-    open-alike : (first count room : ℕ)
-        → firstOf (fullOpenCases o key file number first count room) ≡ firstOf (fullOpenCases p key file number first count room)
-    unfolding fullOpenCases
-    open-alike first count room =
-        first-alike (fullFindCases o key file number) (fullFindCases p key file number) _ _ (find-positive o) (find-positive p) find-alike
-        (λ z. refl)
+    open-alike : (last : List Case) → firstOf (fullFindCases o key file number ++ last) ≡ firstOf (fullFindCases p key file number ++ last)
+    open-alike last =
+        first-alike (fullFindCases o key file number) (fullFindCases p key file number) last last (find-positive o) (find-positive p)
+        find-alike (λ z. refl)
 
 -- ---- one span
 
 pub same-span-archives : SameSpanArchives
+unfolding fullOpenCases fullRangeCases
 same-span-archives key file number held one =
     let judged = check-alike orderOf jobNumber key file (same-span (directoryOf file) (directoryEnd file) (bodiesEnd file) one) in
     let checked = ap (λ (n : ℕ). answer n (countOf file)) judged in
     let full = unchanged-archives key file number held in
     let found = ap (λ (n : ℕ). answer n (fullIndexOf (directoryOf file) number)) (find-alike orderOf jobNumber key file number judged) in
-    let opened : (first count : ℕ)
-    → fullOpenOf orderOf key file number first count (length held) ≡ fullOpenOf jobNumber key file number first count (length held) =
-    λ first count. ap (λ (n : ℕ). answer n count) (open-alike orderOf jobNumber key file number judged first count (length held))
+    let size : ℕ = length (fullBodyOf file number) in
+    let plain : List ℕ = fullPlainOf (scheduleOf key) file number in
+    let opened : fullOpenOf orderOf key file number (length held) ≡ fullOpenOf jobNumber key file number (length held) =
+    ap (λ (n : ℕ). answer n size) (open-alike orderOf jobNumber key file number judged (roomCases size (length held)))
     in
-    let written : (first count : ℕ)
-    → writtenFor (fullOpenOf orderOf key file number first count (length held))
-    (fullPlainRange (scheduleOf key) file number first count) held
-    ≡ writtenFor (fullOpenOf jobNumber key file number first count (length held))
-    (fullPlainRange (scheduleOf key) file number first count) held =
-    λ first count. ap (λ (a : Answer). writtenFor a (fullPlainRange (scheduleOf key) file number first count) held) (opened first count)
+    let ranged : (first count : ℕ)
+    → fullRangeOf orderOf key file number first count (length held) ≡ fullRangeOf jobNumber key file number first count (length held) =
+    λ first count.
+    ap (λ (n : ℕ). answer n count) (open-alike orderOf jobNumber key file number judged (rangeCases size first count (length held)))
     in
-    let size : ℕ = fullJobSize file number in
     record {
       checking = checked;
       directory = ap (λ (a : Answer). partFor a (λ (n : ℕ). directoryOf file)) checked;
       jobs = record {
         finding = full .finding ∙ found;
         body = full .body ∙ ap (λ (a : Answer). partFor a (bodyAt file)) found;
-        opening = λ first count. full .opening first count ∙ opened first count;
-        bytes = λ first count. full .bytes first count ∙ written first count;
-        whole = full .whole ∙ opened 0 size;
-        wholeBytes = full .wholeBytes ∙ written 0 size;
+        opening = full .opening ∙ opened;
+        bytes = full .bytes ∙ ap (λ (a : Answer). writtenFor a plain held) opened;
+        ranging = λ first count. full .ranging first count ∙ ranged first count;
+        rangeBytes = λ first count.
+            full .rangeBytes first count ∙ ap (λ (a : Answer). writtenFor a (rangeOf first count plain) held) (ranged first count);
       };
     }
 

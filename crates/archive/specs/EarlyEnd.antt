@@ -17,7 +17,7 @@ use Rattle.jobnumber.specs.Number.{isJobNumber, orderOf}
 use Rattle.directory.specs.EarlyEnd.{fullIndexOf, fullSearchCases}
 use Rattle.archive.specs.Check.{checkCasesBy}
 use Rattle.archive.specs.Find.{findOf, bodyAt, bodyGiven}
-use Rattle.archive.specs.Open.{underKeystream, jobSize, rangeOf, plainRange, rangeCases, openOf}
+use Rattle.archive.specs.Open.{underKeystream, jobSize, rangeOf, plainRange, roomCases, rangeCases, openOf}
 
 -- finding: after the whole check 18, then 19 where no entry bears the number
 unfoldable pub fullFindCases : (List ℕ → ℕ) → List ℕ → List ℕ → List ℕ → List Case
@@ -34,39 +34,42 @@ fullBodyGiven order key file number = partFor (fullFindOf order key file number)
 abbrev pub fullBodyOf : List ℕ → List ℕ → List ℕ
 fullBodyOf file number = bodyAt file (fullIndexOf (directoryOf file) number)
 
--- opening a range: how many plain bytes it has, and which
-abbrev pub fullJobSize : List ℕ → List ℕ → ℕ
-fullJobSize file number = length (fullBodyOf file number)
+-- opening a whole job, as before request f: how many plain bytes there are, and which
+unfoldable pub fullOpenCases : (List ℕ → ℕ) → List ℕ → List ℕ → List ℕ → ℕ → List Case
+fullOpenCases order key file number room =
+    fullFindCases order key file number ++ roomCases (length (fullBodyOf file number)) room
 
-unfoldable pub fullOpenCases : (List ℕ → ℕ) → List ℕ → List ℕ → List ℕ → ℕ → ℕ → ℕ → List Case
-fullOpenCases order key file number first count room =
-    fullFindCases order key file number ++ rangeCases (fullJobSize file number) first count room
+abbrev pub fullOpenOf : (List ℕ → ℕ) → List ℕ → List ℕ → List ℕ → ℕ → Answer
+fullOpenOf order key file number room =
+    answer (firstOf (fullOpenCases order key file number room)) (length (fullBodyOf file number))
 
-abbrev pub fullOpenOf : (List ℕ → ℕ) → List ℕ → List ℕ → List ℕ → ℕ → ℕ → ℕ → Answer
-fullOpenOf order key file number first count room = answer (firstOf (fullOpenCases order key file number first count room)) count
+abbrev pub fullPlainOf : Schedule → List ℕ → List ℕ → List ℕ
+fullPlainOf s file number = underKeystream s (archiveNumber file) number (fullBodyOf file number)
 
-abbrev pub fullPlainRange : Schedule → List ℕ → List ℕ → ℕ → ℕ → List ℕ
-fullPlainRange s file number first count =
-    rangeOf first count (underKeystream s (archiveNumber file) number (fullBodyOf file number))
+-- opening a range of it
+unfoldable pub fullRangeCases : (List ℕ → ℕ) → List ℕ → List ℕ → List ℕ → ℕ → ℕ → ℕ → List Case
+fullRangeCases order key file number first count room =
+    fullFindCases order key file number ++ rangeCases (length (fullBodyOf file number)) first count room
 
--- the calls come to what they do over the full search, with case 14 by an order: finding; the body that is handed back; opening a range,
--- and the whole job, into a buffer that held `before`, and what stands there afterwards
+abbrev pub fullRangeOf : (List ℕ → ℕ) → List ℕ → List ℕ → List ℕ → ℕ → ℕ → ℕ → Answer
+fullRangeOf order key file number first count room = answer (firstOf (fullRangeCases order key file number first count room)) count
+
+-- the calls come to what they do over the full search, with case 14 by an order: finding; the body that is handed back; opening a whole
+-- job, and a range of it, into a buffer that held `before`, and what stands there afterwards
 pub record AsFull (order : List ℕ → ℕ) (key file number before : List ℕ) : Type 0 where
   pub finding : findOf key file number ≡ fullFindOf order key file number
   pub body : bodyGiven key file number ≡ fullBodyGiven order key file number
-  pub opening : (first count : ℕ)
-      → openOf key file number first count (length before) ≡ fullOpenOf order key file number first count (length before)
-  pub bytes : (first count : ℕ)
-      → writtenFor (openOf key file number first count (length before)) (plainRange (scheduleOf key) file number first count) before
-      ≡ writtenFor (fullOpenOf order key file number first count (length before))
-      (fullPlainRange (scheduleOf key) file number first count) before
-  pub whole : openOf key file number 0 (jobSize file number) (length before)
-      ≡ fullOpenOf order key file number 0 (fullJobSize file number) (length before)
-  pub wholeBytes :
+  pub opening : openOf key file number 0 (jobSize file number) (length before) ≡ fullOpenOf order key file number (length before)
+  pub bytes :
       writtenFor (openOf key file number 0 (jobSize file number) (length before))
       (plainRange (scheduleOf key) file number 0 (jobSize file number)) before
-      ≡ writtenFor (fullOpenOf order key file number 0 (fullJobSize file number) (length before))
-      (fullPlainRange (scheduleOf key) file number 0 (fullJobSize file number)) before
+      ≡ writtenFor (fullOpenOf order key file number (length before)) (fullPlainOf (scheduleOf key) file number) before
+  pub ranging : (first count : ℕ)
+      → openOf key file number first count (length before) ≡ fullRangeOf order key file number first count (length before)
+  pub rangeBytes : (first count : ℕ)
+      → writtenFor (openOf key file number first count (length before)) (plainRange (scheduleOf key) file number first count) before
+      ≡ writtenFor (fullRangeOf order key file number first count (length before))
+      (rangeOf first count (fullPlainOf (scheduleOf key) file number)) before
 
 abbrev pub UnchangedArchives : Type 0
 UnchangedArchives = (key file number before : List ℕ) → AsFull orderOf key file number before

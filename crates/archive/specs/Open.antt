@@ -35,7 +35,7 @@ bodyOf file number = bodyAt file (indexOf (directoryOf file) number)
 abbrev pub plainOf : Schedule → List ℕ → List ℕ → List ℕ
 plainOf s file number = underKeystream s (archiveNumber file) number (bodyOf file number)
 
--- how many there are of either
+-- how many bytes the job has, sealed as plain; 0 where the search comes to no entry
 abbrev pub jobSize : List ℕ → List ℕ → ℕ
 jobSize file number = length (bodyOf file number)
 
@@ -47,9 +47,13 @@ rangeOf first count bytes = take count (drop first bytes)
 abbrev pub plainRange : Schedule → List ℕ → List ℕ → ℕ → ℕ → List ℕ
 plainRange s file number first count = rangeOf first count (plainOf s file number)
 
--- the cases of a range of a job of `size` bytes, for a buffer of `room`: it passes the job's end; it does not fit into the buffer
+-- the case of `size` bytes that do not fit into a buffer of `room`
+unfoldable pub roomCases : ℕ → ℕ → List Case
+roomCases size room = when (ltb room size) 20 ∷ []
+
+-- the cases of a range of a job of `size` bytes: it passes the job's end, or does not fit into the buffer
 unfoldable pub rangeCases : ℕ → ℕ → ℕ → ℕ → List Case
-rangeCases size first count room = when (ltb size (first + count)) 26 ∷ when (ltb room count) 20 ∷ []
+rangeCases size first count room = when (ltb size (first + count)) 26 ∷ roomCases count room
 
 -- the cases of opening a range into a buffer of `room` bytes
 unfoldable pub openCases : List ℕ → List ℕ → List ℕ → ℕ → ℕ → ℕ → List Case

@@ -1,15 +1,14 @@
 -- What is claimed of opening ranges (02, f); the theorems are `ranges-join` and `whole-jobs` of proofs/Ranges.
 -- Assumes nothing.
 use mathlib.Core.Path.{_≡_}
-use mathlib.Core.List.{List, [], _∷_, _++_}
+use mathlib.Core.List.{List, _++_}
 use Prim.Native.Nat.{ℕ, _+_, _≤_}
-use lib.Dec.{ltb}
 use lib.ListN.{length, take, drop}
-use Rattle.refusals.specs.Cases.{when, firstOf}
+use Rattle.refusals.specs.Cases.{firstOf}
 use Rattle.refusals.specs.Answers.{Answer, gives, answer}
 use Rattle.circuit.specs.declared.Schedule.{Schedule}
 use Rattle.archive.specs.Find.{findCases}
-use Rattle.archive.specs.Open.{jobSize, plainOf, plainRange, openOf, Opens}
+use Rattle.archive.specs.Open.{jobSize, plainOf, plainRange, roomCases, openOf, Opens}
 
 -- i and j bytes were opened at the front of two buffers, which then held `after₁` and `after₂`; what opening both at once answers, a, and
 -- leaves in a buffer that held `before`
@@ -29,7 +28,7 @@ RangesJoin = (key file number : List ℕ) (first m n : ℕ) (before₁ before₂
 -- applies
 pub record WholeJob (key file number : List ℕ) (room : ℕ) : Type 0 where
   pub answered : openOf key file number 0 (jobSize file number) room
-      ≡ answer (firstOf (findCases key file number ++ (when (ltb room (jobSize file number)) 20 ∷ []))) (jobSize file number)
+      ≡ answer (firstOf (findCases key file number ++ roomCases (jobSize file number) room)) (jobSize file number)
   pub bytes : (s : Schedule) → plainRange s file number 0 (jobSize file number) ≡ plainOf s file number
 
 abbrev pub WholeJobs : Type 0

@@ -22,8 +22,8 @@ use Rattle.archive.specs.EarlyEnd.{AsFull}
 abbrev pub plainCheckOf : List ℕ → List ℕ → Answer
 plainCheckOf key file = answer (firstOf (checkCasesBy jobNumber key file)) (countOf file)
 
--- every call of this crate comes to what it came to, finding, the body and opening over the full search; `held` is what the buffer for
--- opening held. The places of the parts, and the listing, follow from what is answered
+-- every call of this crate comes to what it comes to by the plain number, finding, the body and opening over the full search; `held` is
+-- what the buffer for opening held. The places of the parts, and the listing, follow from what is answered
 pub record AsBefore (key file number held : List ℕ) : Type 0 where
   pub checking : checkOf key file ≡ plainCheckOf key file
   pub directory : directoryGiven key file ≡ partFor (plainCheckOf key file) (λ (n : ℕ). directoryOf file)

@@ -42,7 +42,7 @@ AcceptedArchives = (key file : List ℕ) → firstOf (keyCases (length key)) ≡
     → Sound (directoryOf file) (directoryEnd file) (bodiesEnd file) → checkOf key file ≡ gives (countOf file)
 
 -- opening is exclusive-or with the keystream, so that doing it again gives the bytes again; there are as many plain bytes as sealed ones,
--- and a range of them is that range of the sealed ones, xor the keystream from its first byte on: no other byte of either is needed
+-- and a range of them is that range of the sealed ones, xor the keystream at its places: no other byte of either is needed
 pub record OpeningXor (s : Schedule) (archive number bytes : List ℕ) : Type 0 where
   pub size : length (underKeystream s archive number bytes) ≡ length bytes
   pub byte : (j : ℕ) → j < length bytes

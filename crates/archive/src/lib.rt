@@ -1,5 +1,5 @@
 // The archive: checking it, its directory, finding a job, its sealed body, and opening it, a range of it or the whole. Each public call
-// makes the whole check of key and file once, which prepares the key. No call copies the file.
+// begins with the whole check of key and file, which prepares the key once. No call copies the file.
 use circuit::Schedule;
 use directory::Found;
 use expansion::Outcome;
@@ -169,8 +169,8 @@ fn decrypt(schedule: Schedule, prefix: [u8; 12], first: usize, sealed: &[u8], ou
     ctr::apply(schedule, prefix, first, &mut out[0..n]);
 }
 
-// Whether a range passes the end of a job of `size` bytes. The sum of `first` and `count` need not fit a usize, so it is not made.
-fn is_past(size: usize, first: usize, count: usize) -> bool
+// Case 26, for a job of `size` bytes. The sum of `first` and `count` need not fit a usize, so it is not made.
+fn passes_end(size: usize, first: usize, count: usize) -> bool
     ensures { λ r. ⌜ r ≡ ltb size (first + count) ⌝ }
 {
     if size < first {
@@ -192,7 +192,7 @@ fn open_body(
     ensures { λ r. ⌜ OpensBody schedule prefix (now (body .entry)) first count (now (out .entry)) (openedAs r) (now (out .exit)) ⌝ }
 {
     let size = body.len();
-    if is_past(size, first, count) {
+    if passes_end(size, first, count) {
         return Opened::Refused(26);
     }
     if out.len() < count {
@@ -249,7 +249,7 @@ pub fn open_range(
     open_job(a.schedule, file, number, first, count, out)
 }
 
-// How many bytes the job of a number has, in any file; 0 where the search comes to no entry.
+// How many bytes the job of a number has; 0 where the search comes to no entry.
 fn job_size(file: &[u8], number: &[u8]) -> usize
     ensures { λ r. ⌜ r ≡ jobSize (now (file .entry)) (now (number .entry)) ⌝ }
 {
@@ -265,5 +265,11 @@ pub fn open(key: &[u8], file: &[u8], number: &[u8], out: &mut [u8]) -> Opened
     ensures { λ r. ⌜ Opens (now (key .entry)) (now (file .entry)) (now (number .entry))
         0 (jobSize (now (file .entry)) (now (number .entry))) (now (out .entry)) (openedAs r) (now (out .exit)) ⌝ }
 {
-    open_range(key, file, number, 0, job_size(file, number), out)
+    let a = admit(key, file);
+    let n = a.number;
+    if n != 0 {
+        return Opened::Refused(n);
+    }
+    let size = job_size(file, number);
+    open_job(a.schedule, file, number, 0, size, out)
 }

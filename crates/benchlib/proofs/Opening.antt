@@ -1,4 +1,4 @@
--- An answer told by one number.
+-- An answer told by its refusal.
 -- Assumes nothing.
 use mathlib.Core.Path.{_≡_, refl, ap, _∙_}
 use mathlib.Core.List.{List}
@@ -6,16 +6,16 @@ use Prim.Native.Nat.{ℕ, zero, suc}
 use Rattle.refusals.specs.Answers.{Answer, answer, writtenFor}
 use Rattle.expansion.specs.KeySchedule.{scheduleOf}
 use Rattle.archive.specs.Open.{plainRange, Opens}
-use Rattle.benchlib.specs.Opening.{numberIn, OpenedAsNumber}
+use Rattle.benchlib.specs.Opening.{refusalIn, BenchOpens}
 
--- of an answer to cases, the number of the first that applies
-pub number-answer : (n v : ℕ) → numberIn (answer n v) ≡ n
-number-answer zero v = refl
-number-answer (suc n) v = refl
+-- of an answer to cases, the first that applies
+pub refusal-answer : (n v : ℕ) → refusalIn (answer n v) ≡ n
+refusal-answer zero v = refl
+refusal-answer (suc n) v = refl
 
-pub opened-number : (key file number : List ℕ) (first count : ℕ) (before after : List ℕ) (a : Answer) (r : ℕ) → r ≡ numberIn a
-    → Opens key file number first count before a after → OpenedAsNumber key file number first count before r after
-opened-number key file number first count before after a r e o = record {
-  refusal = e ∙ ap numberIn (o .answered) ∙ number-answer _ count;
+pub bench-opens : (key file number : List ℕ) (first count : ℕ) (before after : List ℕ) (a : Answer) (r : ℕ) → r ≡ refusalIn a
+    → Opens key file number first count before a after → BenchOpens key file number first count before r after
+bench-opens key file number first count before after a r e o = record {
+  refusal = e ∙ ap refusalIn (o .answered) ∙ refusal-answer _ count;
   bytes = o .bytes ∙ ap (λ (b : Answer). writtenFor b (plainRange (scheduleOf key) file number first count) before) (o .answered);
 }

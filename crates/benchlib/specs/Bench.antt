@@ -15,13 +15,13 @@ use Rattle.ctr.specs.Counter.{keystream, addStream}
 abbrev pub twelve : List ℕ → List ℕ
 twelve xs = overwritten xs (replicate 12 0)
 
--- a run xor the keystream of a key and a prefix, from its first byte on; as it was where the key is refused
-unfoldable pub keyCtrBytes : List ℕ → List ℕ → List ℕ → List ℕ
-keyCtrBytes key prefix xs =
-    unlessRefused (firstOf (keyCases (length key))) (addStream (keystream (scheduleOf key) (twelve prefix)) 0 xs) xs
+-- a run xor the keystream of a key and a prefix, from byte `first` of it on; as it was where the key is refused
+unfoldable pub keyCtrBytes : List ℕ → List ℕ → ℕ → List ℕ → List ℕ
+keyCtrBytes key prefix first xs =
+    unlessRefused (firstOf (keyCases (length key))) (addStream (keystream (scheduleOf key) (twelve prefix)) first xs) xs
 
 -- the contract of counter mode under a key: r is 0, or 1 for a key that is not 16, 24 or 32 bytes long; `after` is what stands in the run
 -- that held `before`
-pub record AppliedUnderKey (key prefix before : List ℕ) (r : ℕ) (after : List ℕ) : Type 0 where
+pub record AppliedUnderKey (key prefix : List ℕ) (first : ℕ) (before : List ℕ) (r : ℕ) (after : List ℕ) : Type 0 where
   pub number : r ≡ firstOf (keyCases (length key))
-  pub bytes : after ≡ keyCtrBytes key prefix before
+  pub bytes : after ≡ keyCtrBytes key prefix first before

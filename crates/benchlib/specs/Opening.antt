@@ -1,4 +1,4 @@
--- Checking an archive and opening a job with one number for the answer, as the bench and the tests call them: 0, or the refusal.
+-- Checking an archive and opening a job, as the bench and the tests call them: they answer 0, or the refusal, and nothing else.
 -- Assumes nothing.
 use mathlib.Core.Path.{_≡_}
 use mathlib.Core.List.{List}
@@ -9,13 +9,13 @@ use Rattle.refusals.specs.Answers.{Answer, refused, gives, writtenFor}
 use Rattle.expansion.specs.KeySchedule.{scheduleOf}
 use Rattle.archive.specs.Open.{plainRange, openCases, openOf}
 
--- the number that an answer is told by: what a call gives is not told
-abbrev pub numberIn : Answer → ℕ
-numberIn (refused n) = n
-numberIn (gives n) = 0
+-- the refusal that an answer is, 0 for none: what a call gives is not told
+abbrev pub refusalIn : Answer → ℕ
+refusalIn (refused n) = n
+refusalIn (gives n) = 0
 
 -- the contract of opening a range: r is 0 or the refusal; `after` is what stands in the buffer that held `before`
-pub record OpenedAsNumber (key file number : List ℕ) (first count : ℕ) (before : List ℕ) (r : ℕ) (after : List ℕ) : Type 0 where
+pub record BenchOpens (key file number : List ℕ) (first count : ℕ) (before : List ℕ) (r : ℕ) (after : List ℕ) : Type 0 where
   pub refusal : r ≡ firstOf (openCases key file number first count (length before))
   pub bytes : after
       ≡ writtenFor (openOf key file number first count (length before)) (plainRange (scheduleOf key) file number first count) before

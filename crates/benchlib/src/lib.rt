@@ -8,7 +8,7 @@ ghost use Rattle.refusals.specs.Cases.{firstOf};
 ghost use Rattle.archive.specs.Check.{checkCases};
 ghost use Rattle.archive.specs.Open.{jobSize, openedAs};
 ghost use Rattle.benchlib.specs.Bench.{twelve, AppliedUnderKey};
-ghost use Rattle.benchlib.specs.Opening.{numberIn, OpenedAsNumber};
+ghost use Rattle.benchlib.specs.Opening.{refusalIn, BenchOpens};
 
 // The first twelve bytes, zero where there are fewer.
 fn first_twelve(bytes: &[u8]) -> [u8; 12]
@@ -19,10 +19,11 @@ fn first_twelve(bytes: &[u8]) -> [u8; 12]
     out
 }
 
-// Counter mode on a run in place, the counter blocks being the prefix and an index from 0 on: 0, or 01's refusal 1.
+// Counter mode on a run in place, from byte `first` of the keystream on, the counter blocks being the prefix and an index: 0, or 01's
+// refusal 1.
 #[no_mangle]
-pub extern "C" fn bench_ctr(key: &[u8], prefix: &[u8], run: &mut [u8]) -> u32
-    ensures { λ r. ⌜ AppliedUnderKey (now (key .entry)) (now (prefix .entry)) (now (run .entry)) r (now (run .exit)) ⌝ }
+pub extern "C" fn bench_ctr(key: &[u8], prefix: &[u8], first: usize, run: &mut [u8]) -> u32
+    ensures { λ r. ⌜ AppliedUnderKey (now (key .entry)) (now (prefix .entry)) first (now (run .entry)) r (now (run .exit)) ⌝ }
 {
     let prepared = preparation::prepare(key);
     let outcome = prepared.outcome;
@@ -30,7 +31,7 @@ pub extern "C" fn bench_ctr(key: &[u8], prefix: &[u8], run: &mut [u8]) -> u32
         return expansion::number_of(outcome);
     };
     let schedule = prepared.schedule;
-    ctr::apply(schedule, first_twelve(prefix), 0, run)
+    ctr::apply(schedule, first_twelve(prefix), first, run)
 }
 
 // The whole check of key and file: 0, or the refusal.
@@ -46,8 +47,8 @@ pub extern "C" fn bench_check(key: &[u8], file: &[u8]) -> u32
 }
 
 // The refusal of an opening, or 0.
-fn number_of(opened: Opened) -> u32
-    ensures { λ r. ⌜ r ≡ numberIn (openedAs opened) ⌝ }
+fn refusal_of(opened: Opened) -> u32
+    ensures { λ r. ⌜ r ≡ refusalIn (openedAs opened) ⌝ }
 {
     match opened {
         Opened::Bytes(_) => 0,
@@ -58,10 +59,10 @@ fn number_of(opened: Opened) -> u32
 // A whole job into the front of a buffer: 0, or the refusal.
 #[no_mangle]
 pub extern "C" fn bench_open(key: &[u8], file: &[u8], number: &[u8], out: &mut [u8]) -> u32
-    ensures { λ r. ⌜ OpenedAsNumber (now (key .entry)) (now (file .entry)) (now (number .entry))
+    ensures { λ r. ⌜ BenchOpens (now (key .entry)) (now (file .entry)) (now (number .entry))
         0 (jobSize (now (file .entry)) (now (number .entry))) (now (out .entry)) r (now (out .exit)) ⌝ }
 {
-    number_of(archive::open(key, file, number, out))
+    refusal_of(archive::open(key, file, number, out))
 }
 
 // A range of a job into the front of a buffer: 0, or the refusal.
@@ -74,8 +75,8 @@ pub extern "C" fn bench_open_range(
     count: usize,
     out: &mut [u8],
 ) -> u32
-    ensures { λ r. ⌜ OpenedAsNumber (now (key .entry)) (now (file .entry)) (now (number .entry)) first count
+    ensures { λ r. ⌜ BenchOpens (now (key .entry)) (now (file .entry)) (now (number .entry)) first count
         (now (out .entry)) r (now (out .exit)) ⌝ }
 {
-    number_of(archive::open_range(key, file, number, first, count, out))
+    refusal_of(archive::open_range(key, file, number, first, count, out))
 }

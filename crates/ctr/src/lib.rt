@@ -90,9 +90,9 @@ fn add_keystream(schedule: Schedule, prefix: [u8; 12], first: usize, run: &mut [
     }
 }
 
-// Counter mode in place, on a run that begins at byte `first` of what is encrypted or decrypted, which are the one operation; of a whole
-// one `first` is 0. Only the blocks of the keystream that the run touches are made. Answers 0, or 3 for a bad schedule, which leaves the
-// run as it was.
+// Counter mode in place; encryption and decryption are the one operation. The run is what stands from byte `first` on in something longer,
+// or all of it, with 0. Only the keystream blocks that it touches are made; they repeat after 2^36 bytes. Answers 0, or 3 for a bad
+// schedule, which leaves the run as it was.
 pub fn apply(schedule: Schedule, prefix: [u8; 12], first: usize, run: &mut [u8]) -> u32
     ensures { λ r. ⌜ Applied schedule prefix first (now (run .entry)) r (now (run .exit)) ⌝ }
 {

@@ -1,4 +1,4 @@
--- Laws of the digits that a number is written in: one at a time, how many there are, and what they are worth.
+-- Laws of the digits that a number is written in: one at a time, how many there are, and their value.
 -- Assumes nothing.
 use mathlib.Core.Path.{_≡_, refl, sym, ap, _∙_}
 use mathlib.Core.Bool.{Bool, true, false}
@@ -79,19 +79,19 @@ some-digit n =
     (λ (l : 10 ≤ n). rw (decimal-more n l) (simp length-append (omega arith)))
     (size n)
 
--- ---- what they are worth
+-- ---- their value
 
 pub decimal-value : (n : ℕ) → valueOf (decimalDigits n) ≡ n
 unfolding decimalDigits
-decimal-value n = worth (suc n) n (omega arith)
+decimal-value n = valued (suc n) n (omega arith)
   where
-    worth : (steps n : ℕ) → n < steps → valueOf (digitsIn steps n) ≡ n
-    worth zero n h = absurd (omega arith)
-    worth (suc steps) n h =
+    valued : (steps n : ℕ) → n < steps → valueOf (digitsIn steps n) ≡ n
+    valued zero n h = absurd (omega arith)
+    valued (suc steps) n h =
         ⊎-elim
         (λ (l : n < 10). ap valueOf (digits-small steps n l) ∙ omega arith)
         (λ (l : 10 ≤ n).
-        let rest : valueOf (digitsIn steps (n / 10)) ≡ n / 10 = worth steps (n / 10) (omega arith) in
+        let rest : valueOf (digitsIn steps (n / 10)) ≡ n / 10 = valued steps (n / 10) (omega arith) in
         ap valueOf (digits-more steps n l) ∙ value-last (digitsIn steps (n / 10)) (48 + n % 10) ∙ omega arith)
         (size n)
 

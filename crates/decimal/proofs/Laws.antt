@@ -7,12 +7,12 @@ use native.Mathlib.Omega.{arith}
 use borrow.Author.Tests.{le-leb, lt-ltb}
 use lib.ListN.{length}
 use Rattle.decimal.specs.Decimal.{decimalDigits}
-use Rattle.decimal.specs.Word.{isNumber}
+use Rattle.decimal.specs.Word.{isDecimal}
 use Rattle.decimal.specs.Laws.{DecimalReads}
 use Rattle.decimal.proofs.Digits.{some-digit, length-decimal, decimal-value, decimal-digits}
 
-taken : (n : ℕ) → n < 18446744073709551616 → isNumber (decimalDigits n) ≡ true
-unfolding isNumber
+taken : (n : ℕ) → n < 18446744073709551616 → isDecimal (decimalDigits n) ≡ true
+unfolding isDecimal
 taken n l =
     let some : 1 ≤ length (decimalDigits n) = some-digit n in
     let few : length (decimalDigits n) ≤ 20 = length-decimal 19 n (omega arith) in

@@ -11,21 +11,21 @@ use lib.Arith.{lt-of-le-ne}
 use lib.Dec.{leb}
 use lib.ListN.{length, getD}
 use Rattle.decimal.specs.Decimal.{allDigits, decimalValue}
-use Rattle.decimal.specs.Word.{valueOf, fits64, isNumber, Reads}
+use Rattle.decimal.specs.Word.{valueOf, fits64, isDecimal, Reads}
 use Rattle.decimal.specs.Internal.{ReadsDigits}
-use Rattle.decimal.specs.declared.Number.{Number}
+use Rattle.decimal.specs.declared.Decimal.{Decimal}
 use Rattle.decimal.proofs.Values.{value-grows}
 
 -- ---- digits
 
 module _ (word : List ℕ) where
-  -- the first k digits are worth `value`, and digit k is worth `digit`
+  -- the first k digits have the value `value`, and digit k has `digit`
   module _ (k value digit : ℕ) (so-far : value ≡ decimalValue word k) (next : digit ≡ getD word k 0 - 48) where
     pub value-next : value * 10 + digit ≡ decimalValue word (k + 1)
     value-next = ap₂ (λ (v d : ℕ). v * 10 + d) so-far next ∙ ap (decimalValue word) (sym (add-one k))
 
     -- they do not fit with it, so all digits do not
-    pub digits-over : (r : Number) → k < length word → digit < 256 → (18446744073709551615 - digit) / 10 < value → r .good ≡ false
+    pub digits-over : (r : Decimal) → k < length word → digit < 256 → (18446744073709551615 - digit) / 10 < value → r .good ≡ false
         → r .value ≡ 0 → ReadsDigits word r
     digits-over r inside small over eg ev =
         let more = value-grows word (suc k) (length word) inside in
@@ -35,7 +35,7 @@ module _ (word : List ℕ) where
         record { good = eg ∙ sym e; value = ev ∙ sym (ap (λ (b : Bool). cond b (valueOf word) 0) e) }
 
   -- all digits are read
-  pub digits-end : (k value : ℕ) (r : Number) → k ≡ length word → value ≡ decimalValue word k → value < 18446744073709551616
+  pub digits-end : (k value : ℕ) (r : Decimal) → k ≡ length word → value ≡ decimalValue word k → value < 18446744073709551616
       → r .good ≡ true → r .value ≡ value → ReadsDigits word r
   digits-end k value r end so-far small eg ev =
       let all : value ≡ valueOf word = so-far ∙ ap (decimalValue word) end in
@@ -45,8 +45,8 @@ module _ (word : List ℕ) where
 -- ---- a word
 
 module _ (word : List ℕ) where
-  empty : length word ≡ 0 → isNumber word ≡ false
-  unfolding isNumber
+  empty : length word ≡ 0 → isDecimal word ≡ false
+  unfolding isDecimal
   empty e =
       let none : length word < 1 = omega arith in
       rw (lt-leb 1 (length word) none)
@@ -57,21 +57,21 @@ module _ (word : List ℕ) where
         let least : 0 ≤ length word = omega arith in
         le-leb 1 (length word) (lt-of-le-ne least (λ z. some (sym z)))
 
-    long : 20 < length word → isNumber word ≡ false
-    unfolding isNumber
+    long : 20 < length word → isDecimal word ≡ false
+    unfolding isDecimal
     long l = rw (one, lt-leb (length word) 20 l)
 
     module _ (short : length word ≤ 20) where
-      other : allDigits word (length word) ≡ false → isNumber word ≡ false
-      unfolding isNumber
+      other : allDigits word (length word) ≡ false → isDecimal word ≡ false
+      unfolding isDecimal
       other e = rw (one, le-leb (length word) 20 short, e)
 
-      by-digits : allDigits word (length word) ≡ true → isNumber word ≡ fits64 (valueOf word)
-      unfolding isNumber
+      by-digits : allDigits word (length word) ≡ true → isDecimal word ≡ fits64 (valueOf word)
+      unfolding isDecimal
       by-digits e = rw (one, le-leb (length word) 20 short, e)
 
-  module _ (r : Number) where
-    no-number : isNumber word ≡ false → r .good ≡ false → r .value ≡ 0 → Reads word r
+  module _ (r : Decimal) where
+    no-number : isDecimal word ≡ false → r .good ≡ false → r .value ≡ 0 → Reads word r
     no-number e eg ev = record { good = eg ∙ sym e; value = ev ∙ sym (ap (λ (b : Bool). cond b (valueOf word) 0) e) }
 
     pub word-empty : length word ≡ 0 → r .good ≡ false → r .value ≡ 0 → Reads word r

@@ -1,4 +1,4 @@
--- Laws of what digits are worth.
+-- Laws of the value of digits.
 -- Assumes nothing.
 use mathlib.Core.Path.{_≡_, refl, ap, ap₂, _∙_}
 use mathlib.Core.Logic.{⊎-elim}
@@ -25,7 +25,7 @@ value-last xs d =
     ap (decimalValue (xs ++ (d ∷ []))) (length-append xs (d ∷ []) ∙ add-one (length xs))
     ∙ ap₂ (λ (v x : ℕ). v * 10 + (x - 48)) (value-front xs (d ∷ []) (length xs) all) (getD-append-seam xs d [] 0)
 
--- more digits are worth no less
+-- more digits have no less a value
 pub value-grows : (s : List ℕ) (k n : ℕ) → k ≤ n → decimalValue s k ≤ decimalValue s n
 value-grows s k zero l = let e : k ≡ 0 = omega arith in rw e (omega arith)
 value-grows s k (suc n) l =

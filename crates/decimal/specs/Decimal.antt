@@ -1,4 +1,4 @@
--- Numbers in decimal: ASCII digits, the most significant first. What digits are worth, and the digits that a number is written in.
+-- Numbers in decimal: ASCII digits, the most significant first. The value of digits, and the digits that a number is written in.
 -- Assumes nothing.
 use mathlib.Core.Bool.{Bool, cond, _&&_}
 use mathlib.Core.List.{List, [], _∷_, _++_}
@@ -15,10 +15,15 @@ isDigit b = leb 48 b && leb b 57
 abbrev pub allDigits : List ℕ → ℕ → Bool
 allDigits s n = allBelow (λ (k : ℕ). isDigit (getD s k 0)) n
 
--- the number that the first k digits are. Of bytes that are no digits each is worth what it is above the digit 0
+-- the value of the digit at place k. Of a byte that is no digit it is how far the byte is above the digit 0; below that, and where there is
+-- no byte, 0
+abbrev pub digitValue : List ℕ → ℕ → ℕ
+digitValue s k = getD s k 0 - 48
+
+-- the number that the first k digits are
 abbrev pub decimalValue : List ℕ → ℕ → ℕ
 decimalValue s zero = 0
-decimalValue s (suc k) = decimalValue s k * 10 + (getD s k 0 - 48)
+decimalValue s (suc k) = decimalValue s k * 10 + digitValue s k
 
 -- the digits of n, by so many steps; more than n steps are always enough
 unfoldable pub digitsIn : ℕ → ℕ → List ℕ

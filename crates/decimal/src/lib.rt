@@ -1,15 +1,14 @@
-// Numbers in decimal: whether bytes are digits, what digits are worth, and the number that a word is. Every call is total.
+// Numbers in decimal: whether bytes are digits, the value of a digit, and the number that a word is. Every call is total.
 use octets::byte_at;
 ghost use mathlib.Core.Path.{_≡_};
 ghost use mathlib.Core.Bool.{false};
-ghost use Prim.Native.Nat.{_-_, _<_};
-ghost use lib.ListN.{getD};
-ghost use Rattle.decimal.specs.Decimal.{isDigit, allDigits};
+ghost use Prim.Native.Nat.{_<_};
+ghost use Rattle.decimal.specs.Decimal.{isDigit, allDigits, digitValue};
 ghost use Rattle.decimal.specs.Word.{Reads};
 ghost use Rattle.decimal.specs.Internal.{ReadsDigits};
 
 // What a word is read as: whether it is a number, and which; 0 where it is none.
-pub struct Number {
+pub struct Decimal {
     pub good: bool,
     pub value: usize,
 }
@@ -37,26 +36,26 @@ pub fn all_digits(s: &[u8], n: usize) -> bool
     true
 }
 
-// What the digit at a place is worth.
+// The value of the digit at a place: of a byte that is none, how far it is above the digit 0; 0 where it is below that, or missing.
 pub fn digit_at(s: &[u8], at: usize) -> usize
-    ensures { λ r. ⌜ (r ≡ getD (now (s .entry)) at 0 - 48) × (r < 256) ⌝ }
+    ensures { λ r. ⌜ (r ≡ digitValue (now (s .entry)) at) × (r < 256) ⌝ }
 {
     let b = byte_at(s, at);
     if b < 48 { 0 } else { b - 48 }
 }
 
-// No number.
-fn none() -> Number
+// What a word that is no number is read as.
+fn none() -> Decimal
     ensures { λ r. ⌜ (r .good ≡ false) × (r .value ≡ 0) ⌝ }
 {
-    Number {
+    Decimal {
         good: false,
         value: 0,
     }
 }
 
-// The number that bytes are, taken as digits, where it fits 64 bits.
-fn digits_read(word: &[u8]) -> Number
+// The number that bytes are, taken as digits, however many and whatever they are; none where it does not fit 64 bits.
+fn read_digits(word: &[u8]) -> Decimal
     ensures { λ r. ⌜ ReadsDigits (now (word .entry)) r ⌝ }
 {
     let mut value: usize = 0;
@@ -70,11 +69,11 @@ fn digits_read(word: &[u8]) -> Number
         value = value * 10 + digit;
         k += 1;
     }
-    Number { good: true, value }
+    Decimal { good: true, value }
 }
 
-// The number that a word is: 1 to 20 digits, worth at most 2^64 - 1.
-pub fn read(word: &[u8]) -> Number
+// The number that a word is, of 1 to 20 digits and at most 2^64 - 1.
+pub fn read(word: &[u8]) -> Decimal
     ensures { λ r. ⌜ Reads (now (word .entry)) r ⌝ }
 {
     let n = word.len();
@@ -87,5 +86,5 @@ pub fn read(word: &[u8]) -> Number
     if !all_digits(word, n) {
         return none();
     }
-    digits_read(word)
+    read_digits(word)
 }

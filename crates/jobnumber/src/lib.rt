@@ -1,8 +1,8 @@
 // Job numbers, at the front of a slice of bytes: whether they are digits, and their order. Every call is total.
 use decimal::digit_at;
 ghost use mathlib.Core.Path.{_≡_};
-ghost use Prim.Native.Nat.{_+_, _*_, _-_, _<_};
-ghost use lib.ListN.{getD};
+ghost use Prim.Native.Nat.{_+_, _*_, _<_};
+ghost use Rattle.decimal.specs.Decimal.{digitValue};
 ghost use Rattle.jobnumber.specs.Number.{digits, isJobNumber, jobNumber, centuryOf, orderOf};
 
 // Whether the first eight bytes are digits.
@@ -24,7 +24,7 @@ pub fn is_job_number(s: &[u8]) -> bool
 
 // The number that the digits at two places are.
 fn pair(s: &[u8], tens: usize, ones: usize) -> usize
-    ensures { λ r. ⌜ (r ≡ (getD (now (s .entry)) tens 0 - 48) * 10 + (getD (now (s .entry)) ones 0 - 48)) × (r < 3000) ⌝ }
+    ensures { λ r. ⌜ (r ≡ digitValue (now (s .entry)) tens * 10 + digitValue (now (s .entry)) ones) × (r < 3000) ⌝ }
 {
     digit_at(s, tens) * 10 + digit_at(s, ones)
 }

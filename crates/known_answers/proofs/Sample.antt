@@ -24,7 +24,7 @@ use Rattle.directory.specs.Check.{bodyFrom, ascendsBy, entryCasesBy, restCases,
 use Rattle.directory.specs.Search.{bears, above, endsAt, stopOf, indexOf, searchCases}
 use Rattle.archive.specs.Check.{keyCheck, fileCasesBy, checkCasesBy}
 use Rattle.archive.specs.Find.{bodyAt, numberCases, findCases}
-use Rattle.archive.specs.Open.{prefixOf, underKeystream, rangeCases, openCases}
+use Rattle.archive.specs.Open.{prefixOf, underKeystream, roomCases, rangeCases, openCases}
 use Rattle.decimal.specs.Decimal.{digitsIn, decimalDigits}
 use Rattle.listing.specs.Text.{field, numberLine, jobLine, jobLines, textOf}
 use Rattle.known_answers.specs.Readings.{every, job24000017}
@@ -40,6 +40,6 @@ unfolding every job24000017 rfcKey sampleFile sampleText samplePlain sampleReadi
     counterBlock keystream addStream countOf archiveNumber directoryOf frontCases fieldCases headerCases
     entryAt digits isJobNumber centuryOf serialOf orderOf bodyFrom ascendsBy entryCasesBy restCases directoryCasesBy
     bears above endsAt stopOf indexOf searchCases keyCheck fileCasesBy checkCasesBy bodyAt prefixOf underKeystream
-    numberCases findCases rangeCases openCases gave refusedBy
+    numberCases findCases roomCases rangeCases openCases gave refusedBy
     digitsIn decimalDigits field numberLine jobLine jobLines textOf
 sample-holds = refl

@@ -2,9 +2,10 @@
 -- prints of it, which is 01's printed example, and what its first job and a range of it open to.
 -- Assumes nothing.
 use mathlib.Core.Bool.{Bool, false}
-use mathlib.Core.List.{List, [], _∷_}
+use mathlib.Core.List.{List, [], _∷_, _++_}
 use Prim.Native.Nat.{ℕ}
 use lib.Dec.{eqb}
+use lib.ListN.{take}
 use Rattle.refusals.specs.Answers.{Answer, refused, gives}
 use Rattle.octets.specs.Equality.{sameBytes}
 use Rattle.expansion.specs.KeySchedule.{scheduleOf}
@@ -43,8 +44,9 @@ unfoldable pub refusedBy : ℕ → Answer → Bool
 refusedBy n (gives m) = false
 refusedBy n (refused m) = eqb m n
 
--- the listing; the whole job; bytes 1 to 3 of it, `rie`; the range of no bytes at its very end, one within it, one that passes its end, and
--- one within it with a buffer that is a byte short
+-- the listing; the whole job; bytes 1 to 3 of it, `rie`; the range of no bytes at its very end, and one within it; one that passes its end,
+-- and one within it with a buffer that is a byte short. Then two faults at once: past the end and too long for the buffer; of no bytes, and
+-- past the end; a sum of 2^64; of job 24000019, which is not there, and of seven digits, past every end
 unfoldable pub sampleReadings : List Bool
 sampleReadings =
     sameBytes (listingText (rfcKey 16) sampleFile) sampleText
@@ -54,4 +56,9 @@ sampleReadings =
     ∷ gave 3 (openOf (rfcKey 16) sampleFile job24000017 1 3 3)
     ∷ refusedBy 26 (openOf (rfcKey 16) sampleFile job24000017 5 1 8)
     ∷ refusedBy 20 (openOf (rfcKey 16) sampleFile job24000017 1 3 2)
+    ∷ refusedBy 26 (openOf (rfcKey 16) sampleFile job24000017 1 5 2)
+    ∷ refusedBy 26 (openOf (rfcKey 16) sampleFile job24000017 6 0 0)
+    ∷ refusedBy 26 (openOf (rfcKey 16) sampleFile job24000017 18446744073709551615 1 8)
+    ∷ refusedBy 19 (openOf (rfcKey 16) sampleFile (take 7 job24000017 ++ (0x39 ∷ [])) 9 9 0)
+    ∷ refusedBy 18 (openOf (rfcKey 16) sampleFile (take 7 job24000017) 9 9 0)
     ∷ []

@@ -2,15 +2,12 @@
 // standard input, under the key in key.bin.
 // A refusal goes to standard error, so that plain bytes can never be mistaken for one, and so does what goes wrong outside the archive.
 use archive::Opened;
-use decimal::Number;
+use decimal::Decimal;
 use libc::STDERR_FILENO;
 use libc::STDIN_FILENO;
 use libc::STDOUT_FILENO;
-ghost use mathlib.Core.Path.{_≡_};
-ghost use Prim.Native.Nat.{ℕ, _≤_};
-ghost use lib.ListN.{length};
-ghost use Rattle.refusals.specs.Answers.{gives};
-ghost use Rattle.archive.specs.Open.{openedAs};
+ghost use Rattle.archive.specs.Open.{jobSize, openedAs, Opens};
+ghost use Rattle.open.specs.Asked.{firstIn, countIn};
 
 // What is asked for of a job.
 enum Asked {
@@ -26,7 +23,7 @@ fn print_usage() {
     );
     io::write_all(
         STDERR_FILENO,
-        b"opens the job of that number, eight digits, or COUNT bytes from its byte FIRST on, under the key in key.bin of this folder\n",
+        b"opens that job, eight digits, or COUNT bytes of it from byte FIRST on, counted from 0, under the key in key.bin of this folder\n",
     );
 }
 
@@ -46,7 +43,8 @@ fn write_plain(bytes: &[u8]) {
 
 // Opens what is asked for of the job.
 fn open_asked(key: &[u8], file: &[u8], number: &[u8], asked: Asked, plain: &mut [u8]) -> Opened
-    ensures { λ r. ⌜ ((n : ℕ) → openedAs r ≡ gives n → n ≤ length (now (plain .exit))) ⌝ }
+    ensures { λ r. ⌜ Opens (now (key .entry)) (now (file .entry)) (now (number .entry)) (firstIn asked)
+        (countIn (jobSize (now (file .entry)) (now (number .entry))) asked) (now (plain .entry)) (openedAs r) (now (plain .exit)) ⌝ }
 {
     match asked {
         Asked::Whole => archive::open(key, file, number, plain),
@@ -94,7 +92,7 @@ fn open_named(asked: Asked) {
 }
 
 // The number that word i is.
-fn number_at(i: usize) -> Number {
+fn decimal_at(i: usize) -> Decimal {
     // one byte more than the longest number: a word that does not fit counts as empty, which is no number either
     let mut word = [0u8; 21];
     let n = os::arg(i, &mut word);
@@ -102,9 +100,9 @@ fn number_at(i: usize) -> Number {
 }
 
 // Opens the range that the second and the third word ask for.
-fn open_words() {
-    let first = number_at(2);
-    let count = number_at(3);
+fn open_range() {
+    let first = decimal_at(2);
+    let count = decimal_at(3);
     if !first.good {
         return print_usage();
     }
@@ -115,12 +113,13 @@ fn open_words() {
 }
 
 fn main() {
-    let words = os::arg_count();
-    if words == 2 {
+    // the program's own name is one of them
+    let arguments = os::arg_count();
+    if arguments == 2 {
         return open_named(Asked::Whole);
     }
-    if words == 4 {
-        return open_words();
+    if arguments == 4 {
+        return open_range();
     }
     print_usage();
 }

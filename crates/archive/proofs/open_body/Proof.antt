@@ -9,15 +9,15 @@ use Rattle.archive.proofs.Opening.{body-past, body-short, body-open}
 use Rattle.archive.proofs.open_body.Statement.{statement}
 use Rattle.archive.proofs.open_body.Tie as tie
 
-is-past-requires : tie.Need-is-past-requires
-is-past-requires c κs = search needs
+passes-end-requires : tie.Need-passes-end-requires
+passes-end-requires c κs = search needs
 
 returns : tie.Need-returns
-returns c = body-past _ _ _ _ _ _ (sym (c .before .is-past .ensures) ∙ c .if1 .taken)
+returns c = body-past _ _ _ _ _ _ (sym (c .before .passes-end .ensures) ∙ c .if1 .taken)
 
 returns-2 : tie.Need-returns-2
 returns-2 c =
-    let within = sym (c .before .before .is-past .ensures) ∙ c .before .if1 .left in
+    let within = sym (c .before .before .passes-end .ensures) ∙ c .before .if1 .left in
     body-short _ _ _ _ _ _ within (c .if2 .taken)
 
 part-requires : tie.Need-part-requires
@@ -35,14 +35,14 @@ returns-3 : tie.Need-returns-3
 returns-3 c =
     let parted = c .before .before .before .before in
     let tested = parted .before .before in
-    let within = sym (tested .before .is-past .ensures) ∙ tested .if1 .left in
+    let within = sym (tested .before .passes-end .ensures) ∙ tested .if1 .left in
     body-open _ _ _ _ _ _ within _ _ (parted .part .ensures .bytes) (parted .before .if2 .left) (c .before .before .decrypt .ensures)
 
 pub open-body-spec : {M : Type 1} → statement M
 open-body-spec =
     tie.close
     (tie.spec
-    is-past-requires
+    passes-end-requires
     returns
     returns-2
     part-requires

@@ -1,10 +1,10 @@
--- `benchlib::bench_check` meets its contract: what checking answers is told by its number.
+-- `benchlib::bench_check` meets its contract: what checking answers is told by its refusal.
 -- Assumes nothing.
 use mathlib.Core.Path.{sym, ap, _∙_}
 use borrow.Author.Needs.{needs}
 use Rattle.archive.specs.Check.{checkedAs}
-use Rattle.benchlib.specs.Opening.{numberIn}
-use Rattle.benchlib.proofs.Opening.{number-answer}
+use Rattle.benchlib.specs.Opening.{refusalIn}
+use Rattle.benchlib.proofs.Opening.{refusal-answer}
 use Rattle.benchlib.proofs.bench_check.Statement.{statement}
 use Rattle.benchlib.proofs.bench_check.Tie as tie
 
@@ -20,12 +20,12 @@ enum-known-checked c = search needs
 returns : tie.Need-returns
 returns c =
     let told = sym (ap checkedAs (c .enum-told .given .1)) ∙ c .before .before .check .ensures in
-    ap numberIn told ∙ number-answer _ _
+    ap refusalIn told ∙ refusal-answer _ _
 
 returns-2 : tie.Need-returns-2
 returns-2 c =
     let told = sym (ap checkedAs (c .before .checked .given .1)) ∙ c .before .before .before .check .ensures in
-    ap numberIn told ∙ number-answer _ _
+    ap refusalIn told ∙ refusal-answer _ _
 
 pub bench-check-spec : {M : Type 1} → statement M
 bench-check-spec =

@@ -20,7 +20,7 @@ returns : tie.Need-returns
 returns c =
     let p = c .before .before .prepare in
     let n = c .number-of .ensures in
-    refused _ _ _ _ (n ∙ p .ensures .number) (λ z. number-else (p .result .outcome) (c .before .match .keys2) (sym n ∙ z))
+    refused _ _ _ _ _ (n ∙ p .ensures .number) (λ z. number-else (p .result .outcome) (c .before .match .keys2) (sym n ∙ z))
 
 first-twelve-requires : tie.Need-first-twelve-requires
 first-twelve-requires c κs = search needs
@@ -36,7 +36,7 @@ returns-2 c =
     let p = c .before .before .before .before .before .before .before .before .prepare .ensures in
     let good = key-ready _ _ p (c .before .before .before .before .before .before .enum-told .given .1) in
     let cut = c .before .before .before .before .first-twelve .ensures in
-    ready _ _ _ _ _ _ _ good (p .schedule) cut (c .before .before .apply .ensures)
+    ready _ _ _ _ _ _ _ _ good (p .schedule) cut (c .before .before .apply .ensures)
 
 pub bench-ctr-spec : {M : Type 1} → statement M
 bench-ctr-spec =

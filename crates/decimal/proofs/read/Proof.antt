@@ -31,14 +31,14 @@ returns-3 c =
     let other = sym (asked .all-digits .ensures) ∙ not-true (asked .all-digits .result) (c .before .if3 .taken) in
     word-other _ _ (asked .before .before .if1 .left) (asked .before .if2 .left) other (c .none3 .ensures .0) (c .none3 .ensures .1)
 
-digits-read-requires : tie.Need-digits-read-requires
-digits-read-requires c κs = search needs
+read-digits-requires : tie.Need-read-digits-requires
+read-digits-requires c κs = search needs
 
 returns-4 : tie.Need-returns-4
 returns-4 c =
     let asked = c .before .before in
     let all = sym (asked .all-digits .ensures) ∙ not-false (asked .all-digits .result) (c .before .if3 .left) in
-    word-digits _ _ (asked .before .before .if1 .left) (asked .before .if2 .left) all (c .digits-read .ensures)
+    word-digits _ _ (asked .before .before .if1 .left) (asked .before .if2 .left) all (c .read-digits .ensures)
 
 pub read-spec : {M : Type 1} → statement M
 read-spec =
@@ -51,5 +51,5 @@ read-spec =
     all-digits-requires
     none-requires-3
     returns-3
-    digits-read-requires
+    read-digits-requires
     returns-4)

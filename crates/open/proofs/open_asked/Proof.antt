@@ -1,7 +1,6 @@
--- `open::open_asked` is safe and ends, and what it opens lies within the buffer: each of the two calls has that by its contract.
+-- `open::open_asked` meets its contract: each of the two calls has it.
 -- Assumes nothing.
 use borrow.Author.Needs.{needs}
-use Rattle.archive.proofs.Opening.{opens-fits}
 use Rattle.open.proofs.open_asked.Statement.{statement}
 use Rattle.open.proofs.open_asked.Tie as tie
 
@@ -21,13 +20,13 @@ same-length : tie.Need-same-length
 same-length c = search needs
 
 returns : tie.Need-returns
-returns c = opens-fits _ _ _ _ _ _ _ _ (c .before .before .«open» .ensures)
+returns c = rw (c .before .before .before .before .enum-told .given .1) (c .before .before .«open» .ensures)
 
 same-length-2 : tie.Need-same-length-2
 same-length-2 c = search needs
 
 returns-2 : tie.Need-returns-2
-returns-2 c = opens-fits _ _ _ _ _ _ _ _ (c .before .before .open-range .ensures)
+returns-2 c = rw (c .before .before .before .before .before .asked .given .1) (c .before .before .open-range .ensures)
 
 pub open-asked-spec : {M : Type 1} → statement M
 open-asked-spec =

@@ -1,4 +1,4 @@
--- `decimal::digits_read` meets its contract: after k turns the value is that of the first k digits. A digit with which it does not fit is
+-- `decimal::read_digits` meets its contract: after k turns the value is that of the first k digits. A digit with which it does not fit is
 -- found before it is added.
 -- Assumes nothing.
 use mathlib.Core.Path.{_≡_, refl}
@@ -9,8 +9,8 @@ use lib.ListN.{length}
 use Rattle.decimal.specs.Decimal.{decimalValue}
 use Rattle.decimal.proofs.Reading.{value-next, digits-over, digits-end}
 use borrow.Author.Needs.{needs}
-use Rattle.decimal.proofs.digits_read.Statement.{statement}
-use Rattle.decimal.proofs.digits_read.Tie as tie
+use Rattle.decimal.proofs.read_digits.Statement.{statement}
+use Rattle.decimal.proofs.read_digits.Tie as tie
 
 abbrev Inv-loop : tie.InvT-loop
 Inv-loop word value₀ k₀ value k = (k ≤ length word) × (value < 18446744073709551616) × (value ≡ decimalValue word k)
@@ -62,8 +62,8 @@ returns-2 c =
     let word : List ℕ = c .before .before .before .args .word .now in
     digits-end word (l .k) _ _ (omega arith) (l .inv .2) (l .inv .1) refl refl
 
-pub digits-read-spec : {M : Type 1} → statement M
-digits-read-spec =
+pub read-digits-spec : {M : Type 1} → statement M
+read-digits-spec =
     tie.close
     (tie.spec
     Inv-loop
