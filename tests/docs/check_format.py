@@ -226,7 +226,11 @@ def faults_of_example(page):
         yield "the keystream is %s" % stream[:5].hex(" ")
     if rows["plain bytes"] != xor(rows["body"], rows["keystream"]) or rows["plain bytes"] != b"dried":
         yield "the plain bytes are %s" % xor(rows["body"], rows["keystream"]).hex(" ")
-    first, count = map(int, re.search(r"The range of that job with first (\d+) and count (\d+) is", page.text).groups())
+    found = re.search(r"The range of that job with first (\d+) and count (\d+) is", page.text)
+    if not found:
+        yield "no range of the job is worked"
+        return
+    first, count = map(int, found.groups())
     parts = [rows[label][first : first + count].hex(" ") for label in ("body", "keystream", "plain bytes")]
     said = "body `%s`, keystream `%s`, plain bytes `%s`, the text `%s`." % (*parts, bytes.fromhex(parts[2]).decode())
     if "is bytes %d to %d of the last three rows: %s" % (first, first + count - 1, said) not in page.text:

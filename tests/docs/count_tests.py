@@ -65,7 +65,10 @@ def figures():
     yield "archives of the model with one byte changed", len(changed)
     yield "random archives of the model", len(chosen)
     yield "distinct ones among all these", len({case.file for case in made + changed + chosen})
-    yield "ranges that `open` is asked for, beside those of each archive", len(list(run.range_questions()))
+    asked = [words for _, words in run.asked_of_open(made + changed + chosen)] + [words for _, _, words in run.asked_slowly()]
+    yield "runs of `jobs` by the model", len(made + changed + chosen) + len(run.SLOW)
+    yield "runs of `open` by the model, with the random archives of seed 0", len(asked)
+    yield "of these with a range", sum(len(words) > 1 for words in asked)
     yield "openings of `tests/model/ranges.py`", sum(1 for _ in ranges.openings())
     yield "its runs of counter mode", sum(1 for _ in ranges.streams())
     faults = programs()

@@ -4,7 +4,7 @@
 
 Every block of README.md set as `sh`, `rust` or `toml` is run or used, in a folder of its own where it is not for the top folder, and a
 block set as `text` is what the command before it has to end in. A block that no check here knows is a fault, so that no block of commands
-goes untried. The commands must leave nothing new in the top folder.
+goes untried. The commands must leave nothing new in the top folder. The table of refusals has them all, in order.
 """
 
 import errno

@@ -135,13 +135,11 @@ def body(file, number):
     return file[entry.start :][: entry.length]
 
 
-def opened(file, number, buffer, span=()):
-    """What opening answers, and what stands in the buffer then."""
-    try:
-        plain = archive.opened(KEY, file, number, span, len(buffer))
-        return "bytes %d" % len(plain), plain + buffer[len(plain) :]
-    except archive.Refused as refused:
-        return "refused %d" % refused.number, buffer
+def opened(file, number, buffer, bounds=()):
+    """What opening answers and leaves, as it is printed, and the buffer then."""
+    refusal, count, left = archive.opened_into(KEY, file, number, bounds, buffer)
+    answer = "refused %d" % refusal if refusal else "bytes %d" % count
+    return "%s, buffer %s" % (answer, left.hex()), left
 
 
 def calls(file):
@@ -153,21 +151,15 @@ def calls(file):
         yield "body of %s" % number.decode(), "'%s'" % body(file, number).hex()
     # one that is not there; three bytes more than the body, then one fewer
     for number, room in ((b"24000019", 8), (b"24000017", 8), (b"24000017", 4)):
-        yield "open %s in %d bytes" % (number.decode(), room), "%s, buffer %s" % shown(opened(file, number, FILL * room))
+        yield "open %s in %d bytes" % (number.decode(), room), opened(file, number, FILL * room)[0]
 
 
 def ranges(file):
     """Ranges about the ends of the job of five bytes and of the buffers, which a later call finds as an earlier one left them."""
     buffers = {8: FILL * 8, 2: FILL * 2}
     for number, first, count, room in RANGES:
-        answered = opened(file, number, buffers[room], (first, count))
-        buffers[room] = answered[1]
-        call = "open %s from %d, count %d, in %d bytes" % (number.decode(), first, count, room)
-        yield call, "%s, buffer %s" % shown(answered)
-
-
-def shown(answered):
-    return answered[0], answered[1].hex()
+        given, buffers[room] = opened(file, number, buffers[room], (first, count))
+        yield "open %s from %d, count %d, in %d bytes" % (number.decode(), first, count, room), given
 
 
 def searches():

@@ -1,7 +1,7 @@
 """The rules of the dryer archive, layout 1, read straight from document 01, with document 02's requests b, e and f.
 
 A model for tests: plain Python over whole numbers and bytes, written apart from the proved code and
-sharing nothing with it. Refusals carry document 01's numbers.
+sharing nothing with it. Refusals carry the documents' numbers.
 """
 
 import functools
@@ -18,7 +18,7 @@ Entry = namedtuple("Entry", "digits start length")
 
 
 class Refused(Exception):
-    """The first case that applies; `number` is its number in document 01."""
+    """The first case that applies; `number` is its number in the documents."""
 
     def __init__(self, number):
         super().__init__("refused %d" % number)
@@ -145,9 +145,18 @@ def open_range(key, file, number, first, count, room=LONGEST_FILE):
     return plain[first : first + count]
 
 
-def opened(key, file, number, span=(), room=LONGEST_FILE):
-    """What opening gives of a span, a first byte and a count, or of the whole job where there is none."""
-    return open_range(key, file, number, *span, room) if span else open_job(key, file, number, room)
+def opened(key, file, number, bounds=(), room=LONGEST_FILE):
+    """What opening gives of a range, by a first byte and a count, or of the whole job where there are none."""
+    return open_range(key, file, number, *bounds, room) if bounds else open_job(key, file, number, room)
+
+
+def opened_into(key, file, number, bounds, buffer):
+    """The refusal of opening into a buffer or 0, how many bytes it counts, and what the buffer holds then."""
+    try:
+        plain = opened(key, file, number, bounds, len(buffer))
+    except Refused as refused:
+        return refused.number, 0, buffer
+    return 0, len(plain), plain + buffer[len(plain) :]
 
 
 def jobs_text(key, file):

@@ -3,7 +3,7 @@
     python3 tests/model/ranges.py [target/staticlib/libbenchlib.a]
 
 The calls are those that `rt staticlib benchlib` exports; a shared library is made of it, and called in this process. Of each call the
-number is compared, every byte that was lent, and bytes before and behind them, which nobody lent; the buffers begin at every place in
+number is compared, every byte of the buffer, and bytes before and behind it, which nobody lent; the buffers begin at every place in
 memory modulo 16. How many bytes an opening counts these calls do not tell; the program `open` and `known_answers` show it. The last line
 is `archive ranges: N calls agree`, or the first call that differs, and then the exit status is 1.
 """
@@ -66,9 +66,9 @@ class Library:
             return number, b"bytes written beside the buffer"
         return number, memory.raw[place : place + len(held)]
 
-    def opened(self, case, number, span, room):
-        name = "bench_open_range" if span else "bench_open"
-        return self.lend(name, (*sized(case.key, case.file, number), *span), FILL * room)
+    def opened(self, case, number, bounds, room):
+        name = "bench_open_range" if bounds else "bench_open"
+        return self.lend(name, (*sized(case.key, case.file, number), *bounds), FILL * room)
 
     def checked(self, case):
         self.calls += 1
@@ -82,14 +82,10 @@ def sized(*slices):
     return [argument for each in slices for argument in (each, len(each))]
 
 
-def expected(case, number, span, room):
+def expected(case, number, bounds, room):
     """The same by the model: the refusal or 0, and the buffer."""
-    buffer = FILL * room
-    try:
-        plain = archive.opened(case.key, case.file, number, span, room)
-    except archive.Refused as refused:
-        return refused.number, buffer
-    return 0, plain + buffer[len(plain) :]
+    refusal, _, buffer = archive.opened_into(case.key, case.file, number, bounds, FILL * room)
+    return refusal, buffer
 
 
 # ---- openings
@@ -137,16 +133,16 @@ def openings():
             yield case, b"24000017", (), room
         # the jobs beside it, one that is not there, and words that are no number
         for number in (b"24000016", b"24000018", b"24000019", b"2400001", b"", b"2400001/"):
-            for span in ((), (0, 0), (0, 1), (0, 13), (1, 12), (1, 13), (13, 0), (14, 0), (2**64 - 1, 1), (9, 2**64 - 1)):
+            for bounds in ((), (0, 0), (0, 1), (0, 13), (1, 12), (1, 13), (13, 0), (14, 0), (2**64 - 1, 1), (9, 2**64 - 1)):
                 for room in (0, 1, 12, 13):
-                    yield case, number, span, room
-    # every archive of the model: where it is refused, with its own number, whatever the number, the range and the buffer
+                    yield case, number, bounds, room
+    # every archive of the model that is shorter than a chunk, or too long: where it is refused, with its own number, whatever is asked
     for case in cases.made():
         if case.key is not None and (len(case.file) < CHUNK or case.refusal == 6):
             for number in (b"24000017", b"240000170"):
-                for span in ((), (0, 3), (2, 2), (6, 0), (2**64 - 1, 1)):
+                for bounds in ((), (0, 3), (2, 2), (6, 0), (2**64 - 1, 1)):
                     for room in (0, 1, 40):
-                        yield case, number, span, room
+                        yield case, number, bounds, room
 
 
 # ---- counter mode
@@ -179,9 +175,11 @@ def streamed(key, prefix, first, run):
 
 
 def compare(what, given, wanted):
-    if given != wanted:
+    if given[0] != wanted[0]:
+        sys.exit("archive ranges: %s: %d in place of %d" % (what, given[0], wanted[0]))
+    if given[1] != wanted[1]:
         at = next((i for i, (a, b) in enumerate(zip(given[1], wanted[1])) if a != b), min(len(given[1]), len(wanted[1])))
-        sys.exit("archive ranges: %s: %s in place of %s, byte %d differs or is missing" % (what, given[0], wanted[0], at))
+        sys.exit("archive ranges: %s: byte %d of the buffer differs, or one beside it" % (what, at))
 
 
 def main():
@@ -197,10 +195,10 @@ def main():
         for case in cases.made():
             if case.key is not None:
                 compare("the check of %s" % case.name, (library.checked(case), b""), (case.refusal, b""))
-        for case, number, span, room in openings():
-            wanted = expected(case, number, span, room)
-            what = "%s, job %r, range %s, %d bytes of room" % (case.name, number, span, room)
-            compare(what, library.opened(case, number, span, room), wanted)
+        for case, number, bounds, room in openings():
+            wanted = expected(case, number, bounds, room)
+            what = "%s, job %r, range %s, %d bytes of room" % (case.name, number, bounds, room)
+            compare(what, library.opened(case, number, bounds, room), wanted)
             met.add(wanted[0])
         for key, prefix, first, run in streams():
             what = "counter mode, key of %d bytes, first byte %d, %d bytes" % (len(key), first, len(run))

@@ -176,28 +176,30 @@ def range_questions():
             yield refused.case("three jobs and a byte", 17), (number, *decimal(first, count))
 
 
+def asked_of_open(all_cases):
+    """Every case and the words for `open`, in the order of the runs."""
+    turn = 0
+    for case in all_cases:
+        for words in words_to_ask(case, turn):
+            yield case, words
+            turn += 1
+    yield from ((case, (number,)) for case, number in questions())
+    yield from range_questions()
+
+
+def asked_slowly():
+    """For `open` through a slow pipe: the last job, whole, and a range."""
+    return [(case, piece, words) for case, piece in SLOW for words in words_to_ask(case, 1)[-2:]]
+
+
 def run_open(path, all_cases, comparison):
     with Program(path) as program:
-        turn = 0
-
-        def compare(case, words):
-            nonlocal turn
+        for turn, (case, words) in enumerate(asked_of_open(all_cases)):
             written = in_turn(program, turn, case, words)
             comparison.note("open %s" % (tuple(word[:40] for word in words),), case, expected_of_open(case, words), written)
-            turn += 1
-
-        for case in all_cases:
-            for words in words_to_ask(case, turn):
-                compare(case, words)
-        for case, number in questions():
-            compare(case, (number,))
-        for case, words in range_questions():
-            compare(case, words)
-        for case, piece in SLOW:
-            # the last job, whole, and the range
-            for words in words_to_ask(case, 1)[-2:]:
-                written = program.from_pipe(case.key, case.file, piece, words)
-                comparison.note("open, slow pipe", case, expected_of_open(case, words), written)
+        for case, piece, words in asked_slowly():
+            written = program.from_pipe(case.key, case.file, piece, words)
+            comparison.note("open %s, slow pipe" % (words,), case, expected_of_open(case, words), written)
 
 
 def main():

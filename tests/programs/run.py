@@ -148,7 +148,7 @@ def writing(says):
             lambda f, after=after: f.run(says.words, fault=("write", 1, after, 0, 1))
         )
 
-    def at_terminal(f):
+    def to_terminal(f):
         """Output to a terminal, which writes a newline as two bytes, calls for no hint."""
         here, there = pty.openpty()
         try:
@@ -158,7 +158,7 @@ def writing(says):
             os.close(here)
             os.close(there)
 
-    yield "output to a terminal", Written(says.output.replace(b"\n", b"\r\n"), b"", 0), at_terminal
+    yield "output to a terminal", Written(says.output.replace(b"\n", b"\r\n"), b"", 0), to_terminal
 
     def to_nobody(f):
         reader, writer = os.pipe()

@@ -39,7 +39,7 @@ plainOf s file number = underKeystream s (archiveNumber file) number (bodyOf fil
 abbrev pub jobSize : List ℕ → List ℕ → ℕ
 jobSize file number = length (bodyOf file number)
 
--- `count` bytes from byte `first` on, counted from 0
+-- `count` bytes from byte `first` on, counted from 0, as far as there are
 abbrev pub rangeOf : ℕ → ℕ → List ℕ → List ℕ
 rangeOf first count bytes = take count (drop first bytes)
 

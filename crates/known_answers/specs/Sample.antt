@@ -45,8 +45,8 @@ refusedBy n (gives m) = false
 refusedBy n (refused m) = eqb m n
 
 -- the listing; the whole job; bytes 1 to 3 of it, `rie`; the range of no bytes at its very end, and one within it; one that passes its end,
--- and one within it with a buffer that is a byte short. Then two faults at once: past the end and too long for the buffer; of no bytes, and
--- past the end; a sum of 2^64; of job 24000019, which is not there, and of seven digits, past every end
+-- and one within it with a buffer that is a byte short. Then past the end and too long for the buffer at once; of no bytes, past the end; a
+-- sum of 2^64; of job 24000019, which is not there, and of seven digits, past every end
 unfoldable pub sampleReadings : List Bool
 sampleReadings =
     sameBytes (listingText (rfcKey 16) sampleFile) sampleText

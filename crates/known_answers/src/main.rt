@@ -237,7 +237,7 @@ fn open_jobs(key: &[u8], file: &[u8]) {
     print_opened(key, file, b"24000017", &mut short);
 }
 
-// Ranges of the job of five bytes: within it, to its very end, past it, by sums that pass 2^64 too; and of a job that is not there.
+// Ranges of the job of five bytes: within it, to its very end, past it, by sums of 2^64 too; and of a job that is not there.
 fn open_ranges(key: &[u8], file: &[u8]) {
     let mut room = [b'.'; 8];
     print_range(key, file, b"24000017", 5, 1, &mut room);
