@@ -31,16 +31,13 @@ use Rattle.archive.proofs.Finding.{number-positive}
 
 -- ---- the range and the buffer
 
--- whether a range passes the end, in two steps that make no sum
-pub past-first : (size first count : ℕ) → size < first → true ≡ ltb size (first + count)
-past-first size first count l = sym (lt-ltb size (first + count) (omega arith))
-
-pub past-count : (size first count : ℕ) → first ≤ size → ltb (size - first) count ≡ ltb size (first + count)
-past-count size first count l = go (ltb (size - first) count) refl
+-- two tests with one outcome
+pub same-test : (x y z w : ℕ) → (x < y → z < w) → (y ≤ x → w ≤ z) → ltb x y ≡ ltb z w
+same-test x y z w below above = go (ltb x y) refl
   where
-    go : (b : Bool) → ltb (size - first) count ≡ b → ltb (size - first) count ≡ ltb size (first + count)
-    go true e = e ∙ sym (lt-ltb size (first + count) (omega (arith, ltb-true (size - first) count e)))
-    go false e = e ∙ sym (le-ltb size (first + count) (omega (arith, ltb-false (size - first) count e)))
+    go : (b : Bool) → ltb x y ≡ b → ltb x y ≡ ltb z w
+    go true e = e ∙ sym (lt-ltb z w (below (ltb-true x y e)))
+    go false e = e ∙ sym (le-ltb z w (above (ltb-false x y e)))
 
 range-positive : (size first count room : ℕ) → positive (rangeCases size first count room) ≡ true
 unfolding rangeCases roomCases positive
