@@ -1,12 +1,12 @@
 -- Laws of opening: what each way out of the code has to show, stage by stage, and what an opening that gave bytes tells.
 -- Assumes nothing.
 use mathlib.Core.Path.{_≡_, refl, sym, ap, ap₂, _∙_, subst}
-use mathlib.Core.Bool.{Bool, true, false}
+use mathlib.Core.Bool.{true, false}
 use mathlib.Core.List.{List, _++_, append-assoc}
-use Prim.Native.Nat.{ℕ, _+_, _-_, _<_, _≤_}
+use Prim.Native.Nat.{ℕ, _+_, _<_, _≤_}
 use native.Mathlib.Nat.{zero-add}
 use native.Mathlib.Omega.{arith}
-use borrow.Author.Tests.{lt-ltb, le-ltb, ltb-true, ltb-false}
+use borrow.Author.Tests.{lt-ltb, le-ltb, ltb-false}
 use lib.Dec.{ltb}
 use lib.ListN.{length, take, drop, length-append, length-take, length-drop}
 use lib.Seq.{take-at, drop-at}
@@ -30,14 +30,6 @@ use Rattle.archive.proofs.Checking.{check-positive}
 use Rattle.archive.proofs.Finding.{number-positive}
 
 -- ---- the range and the buffer
-
--- two tests with one outcome
-pub same-test : (x y z w : ℕ) → (x < y → z < w) → (y ≤ x → w ≤ z) → ltb x y ≡ ltb z w
-same-test x y z w below above = go (ltb x y) refl
-  where
-    go : (b : Bool) → ltb x y ≡ b → ltb x y ≡ ltb z w
-    go true e = e ∙ sym (lt-ltb z w (below (ltb-true x y e)))
-    go false e = e ∙ sym (le-ltb z w (above (ltb-false x y e)))
 
 range-positive : (size first count room : ℕ) → positive (rangeCases size first count room) ≡ true
 unfolding rangeCases roomCases positive

@@ -11,7 +11,7 @@ use borrow.Author.Tests.{leb-true, ltb-true, ltb-false, lt-ltb, le-ltb, eqb-true
 use lib.Dec.{leb, ltb, eqb}
 use lib.ListN.{getD, take, drop}
 use lib.Seq.{getD-take, getD-drop}
-use Rattle.refusals.proofs.Booleans.{both-true}
+use Rattle.refusals.proofs.Booleans.{both-true, same-test}
 use Rattle.octets.proofs.Below.{all-each}
 use Rattle.decimal.specs.Decimal.{isDigit, decimalValue}
 use Rattle.jobnumber.specs.Number.{digits, jobNumber, centuryOf, yearOf, serialOf, orderOf}
@@ -115,11 +115,7 @@ spans s h =
 
 -- numbers moved alike
 moved : (c m n : ℕ) → ltb (c + m) (c + n) ≡ ltb m n
-moved c m n = go (ltb m n) refl
-  where
-    go : (x : Bool) → ltb m n ≡ x → ltb (c + m) (c + n) ≡ ltb m n
-    go true f = lt-ltb (c + m) (c + n) (omega (arith, ltb-true m n f)) ∙ sym f
-    go false f = le-ltb (c + m) (c + n) (omega (arith, ltb-false m n f)) ∙ sym f
+moved c m n = same-test (c + m) (c + n) m n (λ l. omega arith) (λ l. omega arith)
 
 -- the first decides, and where it is the same the second
 by-first : (a b m n : ℕ) → m < 1000000 → n < 1000000

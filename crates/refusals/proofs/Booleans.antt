@@ -1,9 +1,11 @@
 -- Laws of Booleans that the toolchain's library lacks.
 -- Assumes nothing.
-use mathlib.Core.Path.{_≡_, refl, sym}
+use mathlib.Core.Path.{_≡_, refl, sym, _∙_}
 use mathlib.Core.Bool.{Bool, true, false, _&&_, _||_}
-use Prim.Native.Nat.{ℕ}
+use Prim.Native.Nat.{ℕ, _<_, _≤_}
 use native.Mathlib.Omega.{arith}
+use borrow.Author.Tests.{lt-ltb, le-ltb, ltb-true, ltb-false}
+use lib.Dec.{ltb}
 
 -- the two constructors of Bool differ
 pub true-false : true ≡ false → ⊥
@@ -20,3 +22,11 @@ both-true false b e = absurd (true-false (sym e))
 pub neither : (a b : Bool) → (a || b) ≡ false → (a ≡ false) × (b ≡ false)
 neither true b e = absurd (true-false e)
 neither false b e = (refl, e)
+
+-- two tests with one outcome
+pub same-test : (x y z w : ℕ) → (x < y → z < w) → (y ≤ x → w ≤ z) → ltb x y ≡ ltb z w
+same-test x y z w below above = go (ltb x y) refl
+  where
+    go : (b : Bool) → ltb x y ≡ b → ltb x y ≡ ltb z w
+    go true e = e ∙ sym (lt-ltb z w (below (ltb-true x y e)))
+    go false e = e ∙ sym (le-ltb z w (above (ltb-false x y e)))

@@ -4,7 +4,7 @@ use mathlib.Core.Path.{sym}
 use Prim.Native.Nat.{_+_, _-_}
 use native.Mathlib.Omega.{arith}
 use borrow.Author.Tests.{lt-ltb}
-use Rattle.archive.proofs.Opening.{same-test}
+use Rattle.refusals.proofs.Booleans.{same-test}
 use Rattle.archive.proofs.passes_end.Statement.{statement}
 use Rattle.archive.proofs.passes_end.Tie as tie
 
