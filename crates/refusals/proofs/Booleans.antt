@@ -1,4 +1,4 @@
--- Laws of Booleans that the toolchain's library lacks.
+-- Laws of Booleans and of tests that the toolchain's library lacks.
 -- Assumes nothing.
 use mathlib.Core.Path.{_≡_, refl, sym, _∙_}
 use mathlib.Core.Bool.{Bool, true, false, _&&_, _||_}
@@ -23,7 +23,7 @@ pub neither : (a b : Bool) → (a || b) ≡ false → (a ≡ false) × (b ≡ fa
 neither true b e = absurd (true-false e)
 neither false b e = (refl, e)
 
--- two tests with one outcome
+-- x < y and z < w come out alike, where either outcome of the first gives that of the second
 pub same-test : (x y z w : ℕ) → (x < y → z < w) → (y ≤ x → w ≤ z) → ltb x y ≡ ltb z w
 same-test x y z w below above = go (ltb x y) refl
   where
