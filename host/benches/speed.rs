@@ -1,7 +1,9 @@
-//! Speed of both engines and of libcrypto's ARIA, side by side, and of opening a job: `cargo bench`.
+//! Speed of both engines, of CMAC and of libcrypto's ARIA, side by side, and of opening a job:
+//! `cargo bench`.
 //!
-//! Block runs are those of the package. Counter mode and the archive are not among its calls, so they come
-//! from a library for the bench and the tests alone, which `rt staticlib benchlib` writes.
+//! Block runs and CMAC are those of the package. Counter mode and the archive are not among its
+//! calls, so they come from a library for the bench and the tests alone, which
+//! `rt staticlib benchlib` writes.
 //!
 //! Each figure is the best of several rounds, the engines taking turns within a round so that a slow
 //! spell of the machine meets all of them. Time is the thread's CPU time. Every call prepares its key,
@@ -14,8 +16,8 @@ mod libcrypto;
 use std::ffi::{c_int, c_long};
 use std::fs;
 
-use aria_host::{run, Direction, Engine};
-use libcrypto::{Ctr, Ecb};
+use aria_host::{cmac, run, Direction, Engine};
+use libcrypto::{Cmac, Ctr, Ecb};
 
 const ROUNDS: usize = 60;
 const BYTES_PER_MEASUREMENT: usize = 1 << 20;
@@ -169,6 +171,23 @@ fn counter_mode_by_libcrypto<'a>() -> Work<'a> {
     Box::new(move |bytes| ctr.run(&KEY, &first, bytes))
 }
 
+/// The tag goes over the run's front, so that it is compared as the bytes of other works are.
+fn tag_by<'a>(mut tag_of: impl FnMut(&[u8]) -> [u8; 16] + 'a) -> Work<'a> {
+    Box::new(move |bytes| {
+        let tag = tag_of(bytes);
+        bytes[..16].copy_from_slice(&tag);
+    })
+}
+
+fn tag<'a>() -> Work<'a> {
+    tag_by(|bytes| cmac(&KEY, bytes).expect("a key of 16 bytes"))
+}
+
+fn tag_by_libcrypto<'a>() -> Work<'a> {
+    let mut lib = Cmac::new(KEY.len());
+    tag_by(move |bytes| lib.tag(&KEY, bytes))
+}
+
 /// The processor's name, as Linux gives it.
 fn processor() -> String {
     let text = fs::read_to_string("/proc/cpuinfo").unwrap_or_default();
@@ -212,6 +231,18 @@ fn counter_runs(buffer: &mut [u8]) {
     let works = [counter_mode(), counter_mode_by_libcrypto()];
     let [tables, lib] = compared(&mut buffer[..64 << 10], works);
     println!("64 KiB {tables:>30.1} {lib:>10.1} {:>22.2}", tables / lib);
+}
+
+fn tags(buffer: &mut [u8]) {
+    println!("ARIA-CMAC                      tables  libcrypto             tables/lib");
+    for (name, size) in [("64 bytes", 64), ("1 KiB", 1 << 10), ("64 KiB", 64 << 10)] {
+        let works = [tag(), tag_by_libcrypto()];
+        let [tables, lib] = compared(&mut buffer[..size], works);
+        println!(
+            "{name:<11} {tables:>25.1} {lib:>10.1} {:>22.2}",
+            tables / lib
+        );
+    }
 }
 
 /// How many jobs the archive has. The last is opened; the others have no bytes.
@@ -350,5 +381,6 @@ fn main() {
     );
     block_runs(&mut buffer);
     counter_runs(&mut buffer);
+    tags(&mut buffer);
     openings(&mut buffer);
 }

@@ -1,8 +1,10 @@
-//! ARIA (RFC 5794) on runs of blocks: a safe wrapper of the proved library `libaria.a`.
+//! ARIA (RFC 5794) on runs of blocks, and CMAC (NIST SP 800-38B) with it: a safe wrapper of the
+//! proved library `libaria.a`.
 //!
 //! [`encrypt`] and [`decrypt`] process every 16-byte block of a run in place, each on its own (ECB);
-//! [`run`] is both, with the direction as a value. Keys are 16, 24 or 32 bytes long. The mode of
-//! operation is for the caller to choose.
+//! [`run`] is both, with the direction as a value. [`cmac`] makes the 16-byte tag of a run of any
+//! length, and [`verify_cmac`] says whether a tag is the run's. Keys are 16, 24 or 32 bytes long.
+//! Other modes of operation are the caller's affair.
 //!
 //! ```
 //! use aria_host::{decrypt, encrypt, Engine, Refusal};
@@ -27,7 +29,7 @@
 //! one block at a time. [`Engine`] says which engine is the faster one when.
 //!
 //! What is proved is the library. Nothing checks this wrapper's declarations of its functions, which
-//! is why the tests compare both engines with another implementation on many inputs.
+//! is why the tests compare both engines, and CMAC, with another implementation on many inputs.
 
 #![deny(missing_docs)]
 
@@ -58,6 +60,22 @@ mod ffi {
             direction: u32,
             run: *mut u8,
             run_len: usize,
+        ) -> u32;
+        pub fn aria_cmac(
+            key: *const u8,
+            key_len: usize,
+            run: *const u8,
+            run_len: usize,
+            tag: *mut u8,
+            tag_len: usize,
+        ) -> u32;
+        pub fn aria_cmac_verify(
+            key: *const u8,
+            key_len: usize,
+            run: *const u8,
+            run_len: usize,
+            tag: *const u8,
+            tag_len: usize,
         ) -> u32;
     }
 }
@@ -135,7 +153,7 @@ impl Direction {
     }
 }
 
-/// Why a call was refused. A refused call leaves the run as it was.
+/// Why a call was refused. A refused call leaves everything it was lent as it was.
 ///
 /// A later version may know further refusals, so a `match` on one needs an arm for the rest.
 #[derive(Clone, Copy, Debug, PartialEq, Eq, Hash)]
@@ -145,8 +163,10 @@ pub enum Refusal {
     KeyLength,
     /// 2: the direction is neither 0 nor 1. Only [`run_numbered`] can meet it.
     Direction,
-    /// 4: the run's length is not a multiple of 16.
+    /// 4: the run's length is not a multiple of 16. CMAC takes a run of any length.
     RunLength,
+    /// 23: the tag is not 16 bytes long. Only [`verify_cmac`] can meet it.
+    TagLength,
 }
 
 impl Refusal {
@@ -158,12 +178,14 @@ impl Refusal {
     /// assert_eq!(Refusal::KeyLength.number(), 1);
     /// assert_eq!(Refusal::Direction.number(), 2);
     /// assert_eq!(Refusal::RunLength.number(), 4);
+    /// assert_eq!(Refusal::TagLength.number(), 23);
     /// ```
     pub const fn number(self) -> u32 {
         match self {
             Refusal::KeyLength => 1,
             Refusal::Direction => 2,
             Refusal::RunLength => 4,
+            Refusal::TagLength => 23,
         }
     }
 
@@ -172,6 +194,7 @@ impl Refusal {
             Refusal::KeyLength => "the key is not 16, 24 or 32 bytes long",
             Refusal::Direction => "the direction is neither 0 nor 1",
             Refusal::RunLength => "the run's length is not a multiple of 16",
+            Refusal::TagLength => "the tag is not 16 bytes long",
         }
     }
 }
@@ -292,5 +315,87 @@ fn answer(engine: Engine, key: &[u8], direction: u32, run: &mut [u8]) -> u32 {
             run.as_mut_ptr(),
             run.len(),
         )
+    }
+}
+
+/// The CMAC of `run` under `key`: the whole tag of sixteen bytes, not cut short.
+///
+/// The run may have any length, 0 included. Refused with [`Refusal::KeyLength`] alone. To verify a
+/// tag, call [`verify_cmac`].
+///
+/// ```
+/// use aria_host::{cmac, Refusal};
+///
+/// let key = b"sixteen key byte";
+/// let tag = cmac(key, b"a run of any length")?;
+/// assert_eq!(tag[..4], [0xae, 0xfb, 0x02, 0xec]);
+/// assert_ne!(tag, cmac(key, b"a run of any lengths")?);
+/// assert_ne!(tag, cmac(b"another key's 16", b"a run of any length")?);
+///
+/// assert_eq!(cmac(b"short key", b""), Err(Refusal::KeyLength));
+/// # Ok::<(), Refusal>(())
+/// ```
+pub fn cmac(key: &[u8], run: &[u8]) -> Result<[u8; 16], Refusal> {
+    let mut tag = [0; 16];
+    // SAFETY: all three are valid for their lengths, and the tag, a variable of this function,
+    // overlaps neither slice. The library's function has no `requires`: it is proved safe for every
+    // key, run and tag.
+    let answer = unsafe {
+        ffi::aria_cmac(
+            key.as_ptr(),
+            key.len(),
+            run.as_ptr(),
+            run.len(),
+            tag.as_mut_ptr(),
+            tag.len(),
+        )
+    };
+    match answer {
+        0 => Ok(tag),
+        1 => Err(Refusal::KeyLength),
+        other => unreachable!("the library is proved to answer 0 or 1 here, not {other}"),
+    }
+}
+
+/// Whether `tag` is the CMAC of `run` under `key`.
+///
+/// `Ok(true)` is yes and `Ok(false)` is no. A wrong tag is no error, so `?` alone lets it by: use
+/// the value. All sixteen bytes are looked at whatever they are, where a comparison with what
+/// [`cmac`] gives may end at the first that differs.
+///
+/// Refused with the first that applies: [`Refusal::KeyLength`], [`Refusal::TagLength`].
+///
+/// ```
+/// use aria_host::{cmac, verify_cmac, Refusal};
+///
+/// let key = b"twenty-four bytes of key";
+/// let mut tag = cmac(key, b"dried")?;
+/// assert!(verify_cmac(key, b"dried", &tag)?);
+/// assert!(!verify_cmac(key, b"tried", &tag)?);
+///
+/// tag[15] ^= 1;
+/// assert_eq!(verify_cmac(key, b"dried", &tag), Ok(false));
+/// assert_eq!(verify_cmac(key, b"dried", &tag[..8]), Err(Refusal::TagLength));
+/// # Ok::<(), Refusal>(())
+/// ```
+pub fn verify_cmac(key: &[u8], run: &[u8], tag: &[u8]) -> Result<bool, Refusal> {
+    // SAFETY: the slices are valid for their lengths, and nothing is written. The library's
+    // function has no `requires`: it is proved safe for every key, run and tag.
+    let answer = unsafe {
+        ffi::aria_cmac_verify(
+            key.as_ptr(),
+            key.len(),
+            run.as_ptr(),
+            run.len(),
+            tag.as_ptr(),
+            tag.len(),
+        )
+    };
+    match answer {
+        0 => Ok(true),
+        25 => Ok(false),
+        1 => Err(Refusal::KeyLength),
+        23 => Err(Refusal::TagLength),
+        other => unreachable!("the library is proved to answer 0, 1, 23 or 25, not {other}"),
     }
 }

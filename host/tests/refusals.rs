@@ -109,6 +109,7 @@ fn a_refusal_says_its_number() {
         (Refusal::KeyLength, 1),
         (Refusal::Direction, 2),
         (Refusal::RunLength, 4),
+        (Refusal::TagLength, 23),
     ] {
         assert_eq!(refusal.number(), number);
         assert!(refusal

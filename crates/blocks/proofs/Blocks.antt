@@ -1,12 +1,12 @@
 -- Laws of reading a block from a part.
 -- Assumes nothing.
-use mathlib.Core.Path.{_≡_, sym, ap, ap₂, _∙_}
+use mathlib.Core.Path.{_≡_, refl, sym, ap, ap₂, _∙_}
 use mathlib.Core.List.{List, _++_, append-nil}
-use Prim.Native.Nat.{ℕ, _-_, _≤_, min}
+use Prim.Native.Nat.{ℕ, _+_, _-_, _≤_, min}
 use native.Mathlib.Omega.{arith}
-use lib.ListN.{length, take, replicate, length-append, length-take, length-replicate}
-use lib.Seq.{take-all, take-at}
-use Rattle.octets.specs.Parts.{overwritten}
+use lib.ListN.{length, take, drop, replicate, length-append, length-take, length-replicate}
+use lib.Seq.{take-all, take-at, drop-at, drop-drop}
+use Rattle.octets.specs.Parts.{overwritten, laid}
 use Rattle.octets.proofs.Parts.{overwritten-whole, drop-replicate}
 use Rattle.blocks.specs.Blocks.{blockOf}
 
@@ -45,3 +45,19 @@ block-part xs =
     let all : length (take 16 xs) ≤ 16 = omega arith in
     let same : 16 - length (take 16 xs) ≡ 16 - length xs = omega arith in
     ap₂ (λ (u : List ℕ) (n : ℕ). u ++ replicate n 0) (take-all 16 (take 16 xs) all) same
+
+-- bytes laid behind those that a block was read from, where there is room for them
+pub block-behind : (xs s : List ℕ) → length xs + length s ≤ 16 → laid (blockOf xs) (length xs) s ≡ blockOf (xs ++ s)
+unfolding laid blockOf
+block-behind xs s h =
+    let short : length xs ≤ 16 = omega arith in
+    let zeros : List ℕ = replicate (16 - length xs) 0 in
+    let all : length (xs ++ s) ≤ 16 = simp length-append h in
+    let left : 16 - length xs - length s ≡ 16 - length (xs ++ s) = simp length-append (omega arith) in
+    ap (λ (l : List ℕ). take (length xs) (l ++ zeros) ++ s ++ drop (length xs + length s) (l ++ zeros)) (take-all 16 xs short)
+    ∙ ap₂ (λ (u v : List ℕ). u ++ s ++ v) (take-at xs zeros (length xs) refl)
+    (sym (drop-drop (length s) (length xs) (xs ++ zeros))
+    ∙ ap (drop (length s)) (drop-at xs zeros (length xs) refl)
+    ∙ drop-replicate (length s) (16 - length xs)
+    ∙ ap (λ (n : ℕ). replicate n 0) left)
+    ∙ ap (λ (l : List ℕ). l ++ replicate (16 - length (xs ++ s)) 0) (sym (take-all 16 (xs ++ s) all))

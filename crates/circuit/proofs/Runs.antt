@@ -1,13 +1,12 @@
 -- What a run under a schedule answers and leaves, by what its cases come to; and a run of one block.
 -- Assumes nothing.
-use mathlib.Core.Path.{_≡_, refl, sym, ap, ap₂, _∙_}
+use mathlib.Core.Path.{_≡_, refl, sym, ap, _∙_}
 use mathlib.Core.Bool.{Bool, true, false}
-use mathlib.Core.List.{List, [], _∷_, _++_, append-nil}
+use mathlib.Core.List.{List, _++_}
 use Prim.Native.Nat.{ℕ, zero, suc, _%_, _≤_}
 use native.Mathlib.Omega.{arith}
 use lib.Dec.{eqb}
-use lib.ListN.{length, drop, length-drop}
-use lib.Seq.{take-all}
+use lib.ListN.{length}
 use borrow.Author.Tests.{eqb-true, eqb-false}
 use Rattle.refusals.specs.Cases.{firstOf}
 use Rattle.refusals.specs.Answers.{unlessRefused}
@@ -15,7 +14,7 @@ use Rattle.refusals.specs.Shared.{goodRounds, roundsCases, wholeCases}
 use Rattle.refusals.proofs.Cases.{first-stop, first-pass}
 use Rattle.refusals.proofs.Shared.{rounds-positive, rounds-0, rounds-3, whole-0, whole-4}
 use Rattle.blocks.specs.Runs.{eachBlock}
-use Rattle.blocks.proofs.Runs.{each-cons, each-short}
+use Rattle.blocks.proofs.Runs.{each-one}
 use Rattle.boxes.specs.Boxes.{box}
 use Rattle.circuit.specs.Circuit.{aria}
 use Rattle.circuit.specs.Run.{encrypted, runCases, runNumber, runBytes, Ran}
@@ -88,15 +87,4 @@ module _ (s : Schedule) (xs : List ℕ) where
 pub one-block : (s : Schedule) (b : List ℕ) (r : ℕ) (after : List ℕ) → goodRounds (s .rounds) ≡ true → length b ≡ 16 → Ran s b r after
     → after ≡ encrypted s b
 one-block s b r after g l ran =
-    let all : length b ≤ 16 = omega arith in
-    let none : length (drop 16 b) ≡ 0 = simp length-drop (omega arith) in
-    let rest : eachBlock (encrypted s) (drop 16 b) ≡ [] = each-short (encrypted s) (drop 16 b) (omega arith) ∙ empty (drop 16 b) none in
-    ran .bytes
-    ∙ bytes-done s b (number-0 (s .rounds) (length b) g (omega arith))
-    ∙ each-cons (encrypted s) b (omega arith)
-    ∙ ap₂ (λ (u v : List ℕ). encrypted s u ++ v) (take-all 16 b all) rest
-    ∙ append-nil (encrypted s b)
-  where
-    empty : (xs : List ℕ) → length xs ≡ 0 → xs ≡ []
-    empty [] e = refl
-    empty (x ∷ xs) e = absurd (omega arith)
+    ran .bytes ∙ bytes-done s b (number-0 (s .rounds) (length b) g (omega arith)) ∙ each-one (encrypted s) b l

@@ -13,7 +13,7 @@ use Rattle.octets.specs.Parts.{laid}
 use Rattle.blocks.specs.Xor.{xorBlock}
 use Rattle.blocks.specs.Blocks.{blockOf, blockAt}
 use Rattle.blocks.specs.Runs.{eachBlock}
-use Rattle.blocks.proofs.Blocks.{length-block}
+use Rattle.blocks.proofs.Blocks.{block-whole, block-behind}
 use Rattle.blocks.proofs.Rows.{length-row, row-at}
 use Rattle.blocks.proofs.Runs.{each-length, block-at}
 use Rattle.circuit.specs.Run.{encrypted, runBytes, Ran}
@@ -30,16 +30,12 @@ module _ (prefix : List ℕ) (twelve : length prefix ≡ 12) where
 
   -- the index laid over a block that begins with the prefix
   pub counter-laid : (i : ℕ) → laid (blockOf prefix) 12 (bytes32 i) ≡ counterBlock prefix i
-  unfolding counterBlock laid blockOf
+  unfolding counterBlock
   counter-laid i =
-      let zeros : List ℕ = replicate (16 - length prefix) 0 in
-      let short : length prefix ≤ 16 = omega arith in
-      let front : take 12 (take 16 prefix ++ zeros) ≡ prefix =
-      ap (λ (l : List ℕ). take 12 (l ++ zeros)) (take-all 16 prefix short) ∙ take-at prefix zeros 12 twelve
-      in
-      let sixteen : length (blockOf prefix) ≤ 16 = omega (arith, length-block prefix) in
-      let rest : drop 16 (take 16 prefix ++ zeros) ≡ [] = drop-of-length-le (blockOf prefix) sixteen in
-      ap₂ (λ (u v : List ℕ). u ++ bytes32 i ++ v) front rest ∙ append-nil (prefix ++ bytes32 i)
+      let room : length prefix + length (bytes32 i) ≤ 16 = omega (arith, twelve) in
+      ap (λ (n : ℕ). laid (blockOf prefix) n (bytes32 i)) (sym twelve)
+      ∙ block-behind prefix (bytes32 i) room
+      ∙ block-whole (prefix ++ bytes32 i) (length-counter i)
 
   module _ (s : Schedule) (block : ℕ) where
     -- n counter blocks from `block` on, and each of them encrypted

@@ -30,10 +30,8 @@ module _ (c d number : List ℕ) (k : ℕ) (lc : k < entries c) (ld : k < entrie
   entry-same i l =
       let ic : i < entries c = omega arith in
       let id : i < entries d = omega arith in
-      let fc : 16 * i ≤ length c = omega arith in
-      let fd : 16 * i ≤ length d = omega arith in
       let within : 16 * i + 16 ≤ 16 * suc k = omega arith in
-      entry-inside c i ic ∙ part-same c d (16 * i) 16 (16 * suc k) fc fd within same ∙ sym (entry-inside d i id)
+      entry-inside c i ic ∙ part-same c d (16 * i) 16 (16 * suc k) within same ∙ sym (entry-inside d i id)
 
   bears-same : (i : ℕ) → i ≤ k → bears c number i ≡ bears d number i
   unfolding bears

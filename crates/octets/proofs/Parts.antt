@@ -1,12 +1,12 @@
 -- Laws of parts, and of bytes laid over the front of a buffer.
 -- Assumes nothing.
-use mathlib.Core.Path.{_≡_, sym, ap, ap₂, _∙_}
-use mathlib.Core.List.{List, _++_, append-nil}
+use mathlib.Core.Path.{_≡_, refl, sym, ap, ap₂, _∙_}
+use mathlib.Core.List.{List, [], _∷_, _++_, append-nil}
 use Prim.Native.Nat.{ℕ, zero, suc, _+_, _-_, _≤_}
 use native.Mathlib.Nat.{sub-zero, zero-sub, suc-sub-suc}
 use native.Mathlib.Omega.{arith}
 use lib.ListN.{length, take, drop, replicate, length-drop, drop-of-length-le}
-use lib.Seq.{take-all, take-nil, take-take, take-add, drop-at, length-take-le}
+use lib.Seq.{take-all, take-nil, take-take}
 use Rattle.octets.specs.Parts.{overwritten}
 use Rattle.octets.proofs.Fill.{filled}
 
@@ -26,16 +26,16 @@ part-cut s from n h =
     take-all (length s - from) (drop from s) all ∙ sym (take-all n (drop from s) more)
 
 -- a part that ends within the first n bytes is one of these
-part-within : (s : List ℕ) (from m n : ℕ) → from ≤ length s → from + m ≤ n → take m (drop from s) ≡ drop from (take (from + m) (take n s))
-part-within s from m n l h =
-    sym (drop-at (take from s) (take m (drop from s)) from (length-take-le from s l))
-    ∙ ap (drop from) (sym (take-take (from + m) n s h ∙ take-add from m s))
+pub part-front : (s : List ℕ) (from m n : ℕ) → from + m ≤ n → take m (drop from (take n s)) ≡ take m (drop from s)
+part-front s zero m n h = take-take m n s (omega arith)
+part-front s (suc from) m zero h = absurd (omega arith)
+part-front [] (suc from) m (suc n) h = refl
+part-front (x ∷ s) (suc from) m (suc n) h = part-front s from m n (omega arith)
 
 -- byte strings that begin with the same n bytes have the same parts within these
-pub part-same : (s t : List ℕ) (from m n : ℕ) → from ≤ length s → from ≤ length t → from + m ≤ n → take n s ≡ take n t
-    → take m (drop from s) ≡ take m (drop from t)
-part-same s t from m n ls lt h e =
-    part-within s from m n ls h ∙ ap (λ (f : List ℕ). drop from (take (from + m) f)) e ∙ sym (part-within t from m n lt h)
+pub part-same : (s t : List ℕ) (from m n : ℕ) → from + m ≤ n → take n s ≡ take n t → take m (drop from s) ≡ take m (drop from t)
+part-same s t from m n h e =
+    sym (part-front s from m n h) ∙ ap (λ (f : List ℕ). take m (drop from f)) e ∙ part-front t from m n h
 
 -- ---- bytes laid over the front
 

@@ -1,7 +1,7 @@
-//! ARIA-ECB and ARIA-CTR of OpenSSL's libcrypto, the implementation of other origin. The library itself
-//! does not link it: only the tests and the bench do.
+//! ARIA-ECB, ARIA-CTR and CMAC of OpenSSL's libcrypto, the implementation of other origin. The
+//! library itself does not link it: only the tests and the bench do. CMAC needs libcrypto 3.0.
 
-use std::ffi::{c_char, c_int, c_uchar, c_void, CStr};
+use std::ffi::{c_char, c_int, c_uchar, c_uint, c_void, CStr, CString};
 use std::ptr;
 
 use aria_host::Direction;
@@ -33,6 +33,44 @@ extern "C" {
         input: *const c_uchar,
         input_len: c_int,
     ) -> c_int;
+    fn EVP_MAC_fetch(
+        library: *mut c_void,
+        name: *const c_char,
+        properties: *const c_char,
+    ) -> *mut c_void;
+    fn EVP_MAC_free(mac: *mut c_void);
+    fn EVP_MAC_CTX_new(mac: *mut c_void) -> *mut c_void;
+    fn EVP_MAC_CTX_free(context: *mut c_void);
+    fn EVP_MAC_CTX_set_params(context: *mut c_void, params: *const Param) -> c_int;
+    fn EVP_MAC_init(
+        context: *mut c_void,
+        key: *const c_uchar,
+        key_len: usize,
+        params: *const Param,
+    ) -> c_int;
+    fn EVP_MAC_update(context: *mut c_void, data: *const c_uchar, data_len: usize) -> c_int;
+    fn EVP_MAC_final(
+        context: *mut c_void,
+        out: *mut c_uchar,
+        out_len: *mut usize,
+        out_size: usize,
+    ) -> c_int;
+    fn OSSL_PARAM_construct_utf8_string(
+        key: *const c_char,
+        value: *mut c_char,
+        value_len: usize,
+    ) -> Param;
+    fn OSSL_PARAM_construct_end() -> Param;
+}
+
+/// OSSL_PARAM, a named setting.
+#[repr(C)]
+struct Param {
+    key: *const c_char,
+    data_type: c_uint,
+    data: *mut c_void,
+    data_size: usize,
+    return_size: usize,
 }
 
 /// The library's name and version, as it gives them.
@@ -149,5 +187,66 @@ impl Ctr {
     /// Under the counter blocks from `first` on.
     pub fn run(&mut self, key: &[u8], first: &[u8; 16], run: &mut [u8]) {
         self.0.run(key, first.as_ptr(), run);
+    }
+}
+
+/// CMAC with a block cipher of sixteen-byte blocks, for keys of one length.
+pub struct Cmac {
+    context: *mut c_void,
+    key_len: usize,
+}
+
+impl Cmac {
+    /// With ARIA.
+    pub fn new(key_len: usize) -> Cmac {
+        Cmac::with("ARIA", key_len)
+    }
+
+    /// With the cipher of that name.
+    pub fn with(cipher: &str, key_len: usize) -> Cmac {
+        // libcrypto's CMAC takes the cipher by the name of its CBC mode.
+        let mode = format!("{cipher}-{}-CBC", 8 * key_len);
+        let [method, setting, value] =
+            ["CMAC", "cipher", &mode].map(|name| CString::new(name).expect("no zero byte"));
+        // SAFETY: each name ends in a zero byte, by which a value of length 0 is measured, and is
+        // only read; the context keeps what it needs of the method and of the names.
+        unsafe {
+            let mac = EVP_MAC_fetch(ptr::null_mut(), method.as_ptr(), ptr::null());
+            assert!(!mac.is_null(), "EVP_MAC_fetch: no CMAC in this libcrypto");
+            let context = EVP_MAC_CTX_new(mac);
+            EVP_MAC_free(mac);
+            assert!(!context.is_null(), "EVP_MAC_CTX_new");
+            let params = [
+                OSSL_PARAM_construct_utf8_string(setting.as_ptr(), value.as_ptr().cast_mut(), 0),
+                OSSL_PARAM_construct_end(),
+            ];
+            let set = EVP_MAC_CTX_set_params(context, params.as_ptr());
+            assert_eq!(set, 1, "EVP_MAC_CTX_set_params: no {mode}");
+            Cmac { context, key_len }
+        }
+    }
+
+    /// Prepares the key and makes the tag of the run, as one of our calls does.
+    pub fn tag(&mut self, key: &[u8], run: &[u8]) -> [u8; 16] {
+        assert_eq!(key.len(), self.key_len);
+        let (mut tag, mut tag_len) = ([0; 16], 0);
+        // SAFETY: the slices are valid for their lengths; the tag has the cipher's block length.
+        unsafe {
+            let keyed = EVP_MAC_init(self.context, key.as_ptr(), key.len(), ptr::null());
+            assert_eq!(keyed, 1, "EVP_MAC_init");
+            let read = EVP_MAC_update(self.context, run.as_ptr(), run.len());
+            assert_eq!(read, 1, "EVP_MAC_update");
+            let done = EVP_MAC_final(self.context, tag.as_mut_ptr(), &mut tag_len, tag.len());
+            assert_eq!(done, 1, "EVP_MAC_final");
+        }
+        assert_eq!(tag_len, tag.len());
+        tag
+    }
+}
+
+impl Drop for Cmac {
+    fn drop(&mut self) {
+        // SAFETY: the context came from EVP_MAC_CTX_new and is freed once.
+        unsafe { EVP_MAC_CTX_free(self.context) }
     }
 }

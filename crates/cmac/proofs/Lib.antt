@@ -1,0 +1,3 @@
+pub mod Generation
+pub mod Answers
+pub mod Laws
