@@ -1,4 +1,4 @@
--- Laws of a chain over the blocks of a run, over any function of a block: a turn of the loop that makes it, and that it reads the blocks that
+-- Laws of a chain over the blocks of a run, over any function of a block: its length, a turn of the loop that makes it, and that it reads the blocks that
 -- it takes in and no others.
 -- Assumes nothing.
 use mathlib.Core.Path.{_≡_, refl, sym, ap, ap₂, _∙_}
@@ -15,6 +15,12 @@ use Rattle.blocks.proofs.Blocks.{block-whole}
 use Rattle.blocks.proofs.XorBlock.{length-xor}
 
 module _ (f : List ℕ → List ℕ) (start : List ℕ) where
+  pub length-chain : ((b : List ℕ) → length b ≡ 16 → length (f b) ≡ 16) → length start ≡ 16 → (k : ℕ) (xs : List ℕ)
+      → length (chained f start k xs) ≡ 16
+  unfolding chained
+  length-chain keeps h zero xs = h
+  length-chain keeps h (suc k) xs = keeps _ (length-xor (chained f start k xs) _ ∙ length-chain keeps h k xs)
+
   -- a turn at byte `at` of a run of whole blocks: the part there is loaded and added, and the sum put through f
   pub chain-turn : (xs x b y : List ℕ) (at : ℕ) → at % 16 ≡ 0 → at + 16 ≤ length xs → x ≡ chained f start (at / 16) xs
       → b ≡ blockOf (take (at + 16 - at) (drop at xs)) → y ≡ f (xorBlock x b) → y ≡ chained f start ((at + 16) / 16) xs

@@ -1,2 +1,3 @@
 pub mod Cmac
 pub mod Tag
+pub mod Laws

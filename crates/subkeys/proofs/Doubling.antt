@@ -2,25 +2,32 @@
 -- Assumes nothing.
 use mathlib.Core.Path.{_≡_, refl, sym, ap, ap₂, _∙_}
 use mathlib.Core.Bool.{Bool, true, false, cond}
-use mathlib.Core.List.{List}
-use Prim.Native.Nat.{ℕ, _+_, _*_, _/_, _%_, _<_, _≤_}
+use mathlib.Core.List.{List, [], _∷_}
+use Prim.Native.Nat.{ℕ, zero, suc, _+_, _*_, _/_, _%_, _<_, _≤_}
+use native.Mathlib.Nat.{le-of-suc-le-suc, not-suc-le-zero}
+use native.Mathlib.Numerals.{add-one}
 use native.Mathlib.Omega.{arith}
 use borrow.Author.Tests.{ltb-true, ltb-false}
 use lib.Dec.{ltb}
 use lib.ListN.{length, getD, set, replicate}
-use Rattle.octets.proofs.Tables.{values-at}
 use Rattle.blocks.specs.Xor.{xorBlock}
 use Rattle.blocks.specs.Chains.{zeroBlock}
 use Rattle.blocks.proofs.XorBlock.{xor-zeros}
 use Rattle.subkeys.specs.Subkeys.{shiftedLeft, r128, doubled}
 
-pub length-shifted : (b : List ℕ) → length (shiftedLeft b) ≡ 16
+pub length-shifted : (b : List ℕ) → length (shiftedLeft b) ≡ length b
 unfolding shiftedLeft
-length-shifted b = refl
+length-shifted [] = refl
+length-shifted (x ∷ b) = ap suc (length-shifted b)
 
-pub shifted-at : (b : List ℕ) (i : ℕ) → i < 16 → getD (shiftedLeft b) i 0 ≡ getD b i 0 * 2 % 256 + getD b (i + 1) 0 / 128
+pub shifted-at : (b : List ℕ) (i : ℕ) → i < length b → getD (shiftedLeft b) i 0 ≡ getD b i 0 * 2 % 256 + getD b (i + 1) 0 / 128
 unfolding shiftedLeft
-shifted-at b i h = values-at (λ (i : ℕ). getD b i 0 * 2 % 256 + getD b (i + 1) 0 / 128) 0 16 i h
+shifted-at b i h = go b i h ∙ ap (λ (n : ℕ). getD b i 0 * 2 % 256 + getD b n 0 / 128) (sym (add-one i))
+  where
+    go : (b : List ℕ) (i : ℕ) → i < length b → getD (shiftedLeft b) i 0 ≡ getD b i 0 * 2 % 256 + getD b (suc i) 0 / 128
+    go [] i h = absurd (not-suc-le-zero h)
+    go (x ∷ b) zero h = refl
+    go (x ∷ b) (suc i) h = go b i (le-of-suc-le-suc h)
 
 -- the top bit of a byte, times the constant, in the last place of zero bytes
 pub reduction-law : (x : ℕ) → x < 256 → set zeroBlock 15 (x / 128 * 0x87) ≡ cond (ltb x 128) zeroBlock r128

@@ -1,1 +1,2 @@
 pub mod Subkeys
+pub mod Laws

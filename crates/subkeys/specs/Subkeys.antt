@@ -6,12 +6,12 @@ use mathlib.Core.List.{List, [], _∷_, _++_}
 use Prim.Native.Nat.{ℕ, _+_, _*_, _/_, _%_}
 use lib.Dec.{ltb}
 use lib.ListN.{getD, replicate}
-use Rattle.octets.specs.Tables.{values}
 use Rattle.blocks.specs.Xor.{xorBlock}
 
 -- b << 1, the standard's shift by one bit: each byte loses its top bit and gains that of the byte after it, the last one a 0
 unfoldable pub shiftedLeft : List ℕ → List ℕ
-shiftedLeft b = values (λ (i : ℕ). getD b i 0 * 2 % 256 + getD b (i + 1) 0 / 128) 16
+shiftedLeft [] = []
+shiftedLeft (x ∷ xs) = (x * 2 % 256 + getD xs 0 0 / 128) ∷ shiftedLeft xs
 
 -- the standard's R for 128 bits: 120 bits 0, and then 10000111
 unfoldable pub r128 : List ℕ

@@ -38,7 +38,7 @@ loop-again c =
     let b = c .before .before .before .args .block in
     let size : length b ≡ 16 = search needs in (
       omega arith,
-      fill-turn (shiftedLeft b) b _ (l .i) _ (l .inv .1) (length-shifted b ∙ sym size) (omega arith)
+      fill-turn (shiftedLeft b) b _ (l .i) _ (l .inv .1) (length-shifted b) (omega arith)
           (c .shifted-byte .ensures ∙ sym (shifted-at b (l .i) (omega arith))),
     )
 
@@ -47,7 +47,7 @@ returns c =
     let l = c .before .loop in
     let b = c .before .before .args .block in
     let size : length b ≡ 16 = search needs in
-    fill-done (shiftedLeft b) b _ (l .i) 16 (l .inv .1) (length-shifted b) size (omega arith)
+    fill-done (shiftedLeft b) b _ (l .i) 16 (l .inv .1) (length-shifted b ∙ size) size (omega arith)
 
 pub shift-left-spec : {M : Type 1} → statement M
 shift-left-spec =
