@@ -24,6 +24,12 @@ contents, in which FILL stands for what a search does not look at,
     search 'NUMBER' in 'CONTENTS': index I
 
 or `refused R`. Then a line an engine, `ENGINE, RFC 5794 A.1: HEX`: the appendix's block, encrypted.
+
+Then tags of the sample archive and of its front,
+
+    cmac, N bytes: R, tag HEX
+
+R the refusal's number or 0, and a comparison a line, `verify, CASE: R`, 0 for yes and 25 for no.
 """
 
 import os
@@ -32,6 +38,7 @@ import sys
 sys.path.insert(0, os.path.join(os.path.dirname(os.path.abspath(__file__)), "..", "model"))
 
 import archive  # noqa: E402
+import cmac  # noqa: E402
 import libcrypto  # noqa: E402
 import stored  # noqa: E402
 
@@ -169,6 +176,36 @@ def searches():
         yield "search '%s' in '%s'" % (number.decode(), contents.decode()), place(archive.search, contents, number)
 
 
+def tags(file):
+    def tagged(message):
+        made = cmac.tag(KEY, message)
+        assert made == libcrypto.cmac(KEY, message)
+        return "0, tag %s" % made.hex()
+
+    for length in (0, 15, 16, 32, 57):
+        yield "cmac, %d bytes" % length, tagged(file[:length])
+    yield "cmac under a schedule", tagged(file)
+    # a refusal has zero bytes beside it
+    yield "cmac under 13 rounds", "3, tag %s" % bytes(cmac.BLOCK).hex()
+    yield "cmac under 15 bytes of key", "1, tag %s" % bytes(cmac.BLOCK).hex()
+
+
+def verdicts(file):
+    tag = cmac.tag(KEY, file)
+    other = tag[:-1] + bytes([tag[-1] ^ 1])
+    short = tag[:-1]
+    under = "verify under a schedule"
+    yield "verify, the tag", cmac.verdict(KEY, file, tag)
+    yield "verify, its last bit changed", cmac.verdict(KEY, file, other)
+    yield "verify, 15 bytes of it", cmac.verdict(KEY, file, short)
+    yield "verify, 15 bytes of key and tag", cmac.verdict(KEY[:15], file, short)
+    yield under + ", the tag", cmac.verdict(KEY, file, tag)
+    yield under + ", its last bit changed", cmac.verdict(KEY, file, other)
+    yield under + ", 15 bytes of it", cmac.verdict(KEY, file, short)
+    # a bad round count comes before the tag's length, as a bad key does
+    yield "verify under 13 rounds, 15 bytes of it", 3
+
+
 if __name__ == "__main__":
     for case, file in cases():
         print("%s: %s" % (case, answer(file)))
@@ -180,3 +217,7 @@ if __name__ == "__main__":
         print("%s: %s" % (call, given))
     for engine in ("plain", "tables"):
         print("%s, RFC 5794 A.1: %s" % (engine, libcrypto.forward(KEY, BLOCK).hex()))
+    for call, given in tags(sample()):
+        print("%s: %s" % (call, given))
+    for call, given in verdicts(sample()):
+        print("%s: %d" % (call, given))

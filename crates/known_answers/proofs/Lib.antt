@@ -1,3 +1,4 @@
 pub mod Readings
 pub mod Vectors
 pub mod Sample
+pub mod Tags

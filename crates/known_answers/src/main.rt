@@ -2,11 +2,14 @@
 // good but for what its line names. Prints what checking answered. Then makes each other call of `archive` on the sample archive, for jobs
 // that are there and for one that is not, and opens once more into a buffer that is a byte short; and opens ranges, on both sides of the
 // job's end and of the buffer's. Then searches bare directories, also such as no archive has. Then runs the block of RFC 5794, A.1, by each
-// engine as `roundtrip::run_by` picks it.
+// engine as `roundtrip::run_by` picks it. Then tags the front of the sample archive, and compares tags, under the key and under schedules.
 // tests/known_answers/make_expected.py makes the stored output from the model of the archive and from libcrypto. The readings marked P are
 // the one theorem of proofs/Readings.
 use archive::Checked;
 use archive::Opened;
+use circuit::Schedule;
+use cmac::Tagged;
+use cmac::Verdict;
 use directory::Found;
 use expansion::Outcome;
 use libc::STDOUT_FILENO;
@@ -375,6 +378,104 @@ fn print_run(case: &[u8], engine: Engine) {
     print_line(case, &block);
 }
 
+// A line: the case, the outcome's number and the tag beside it.
+fn print_tagged(case: &[u8], tagged: Tagged) {
+    let outcome = tagged.outcome;
+    let tag = tagged.tag;
+    print_number(case, expansion::number_of(outcome) as u64);
+    print_line(b", tag ", &tag);
+}
+
+// Tags of the front of a file: of no bytes, of less than a block, a block, two blocks, and three and less than a fourth.
+fn tag_lengths(key: &[u8], file: &[u8]) {
+    print_tagged(b"cmac, 0 bytes: ", cmac::tag(key, octets::part(file, 0, 0)));
+    print_tagged(
+        b"cmac, 15 bytes: ",
+        cmac::tag(key, octets::part(file, 0, 15)),
+    );
+    print_tagged(
+        b"cmac, 16 bytes: ",
+        cmac::tag(key, octets::part(file, 0, 16)),
+    );
+    print_tagged(
+        b"cmac, 32 bytes: ",
+        cmac::tag(key, octets::part(file, 0, 32)),
+    );
+    print_tagged(b"cmac, 57 bytes: ", cmac::tag(key, file));
+}
+
+// The same under a schedule, under one of 13 rounds, and under a key of 15 bytes.
+fn tag_refusals(key: &[u8], good: Schedule, bad: Schedule, file: &[u8]) {
+    print_tagged(b"cmac under a schedule: ", cmac::tag_under(good, file));
+    print_tagged(b"cmac under 13 rounds: ", cmac::tag_under(bad, file));
+    print_tagged(
+        b"cmac under 15 bytes of key: ",
+        cmac::tag(octets::part(key, 0, 15), file),
+    );
+}
+
+// A line: the case, and the number of a comparison's verdict.
+fn print_verdict(case: &[u8], verdict: Verdict) {
+    print_number(case, cmac::number_of(verdict) as u64);
+    print(b"\n");
+}
+
+// Comparisons under a key: with the tag, with another, with a byte too few, and so with a bad key as well.
+fn verify_by_key(key: &[u8], file: &[u8], tag: &[u8], other: &[u8]) {
+    let short = octets::part(tag, 0, 15);
+    print_verdict(b"verify, the tag: ", cmac::verify(key, file, tag));
+    print_verdict(
+        b"verify, its last bit changed: ",
+        cmac::verify(key, file, other),
+    );
+    print_verdict(b"verify, 15 bytes of it: ", cmac::verify(key, file, short));
+    print_verdict(
+        b"verify, 15 bytes of key and tag: ",
+        cmac::verify(octets::part(key, 0, 15), file, short),
+    );
+}
+
+// The same under schedules, of which one has 13 rounds.
+fn verify_by_schedule(good: Schedule, bad: Schedule, file: &[u8], tag: &[u8], other: &[u8]) {
+    let short = octets::part(tag, 0, 15);
+    print_verdict(
+        b"verify under a schedule, the tag: ",
+        cmac::verify_under(good, file, tag),
+    );
+    print_verdict(
+        b"verify under a schedule, its last bit changed: ",
+        cmac::verify_under(good, file, other),
+    );
+    print_verdict(
+        b"verify under a schedule, 15 bytes of it: ",
+        cmac::verify_under(good, file, short),
+    );
+    print_verdict(
+        b"verify under 13 rounds, 15 bytes of it: ",
+        cmac::verify_under(bad, file, short),
+    );
+}
+
+// The last bit of a tag changed.
+fn changed(tag: [u8; 16]) -> [u8; 16] {
+    let mut out = tag;
+    out[15] = out[15] ^ 1;
+    out
+}
+
+// The calls of `cmac`, by the key and by its schedule, and by that with another round count.
+fn sample_tags(key: &[u8], file: &[u8]) {
+    let good = preparation::prepare(key).schedule;
+    let keys = good.keys;
+    let bad = Schedule { rounds: 13, keys };
+    let tag = cmac::tag(key, file).tag;
+    let other = changed(tag);
+    tag_lengths(key, file);
+    tag_refusals(key, good, bad, file);
+    verify_by_key(key, file, &tag, &other);
+    verify_by_schedule(good, bad, file, &tag, &other);
+}
+
 fn main() {
     short_file();
     layout_2();
@@ -393,4 +494,5 @@ fn main() {
     search_other_years();
     print_run(b"plain, RFC 5794 A.1: ", Engine::Plain);
     print_run(b"tables, RFC 5794 A.1: ", Engine::Tables);
+    sample_tags(&key, &file);
 }
