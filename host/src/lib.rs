@@ -167,6 +167,8 @@ pub enum Refusal {
     RunLength,
     /// 23: the tag is not 16 bytes long. Only [`verify_cmac`] can meet it.
     TagLength,
+    /// 25: the tag is not that of the run. It is how [`verify_cmac`] says no.
+    TagDiffers,
 }
 
 impl Refusal {
@@ -179,6 +181,7 @@ impl Refusal {
     /// assert_eq!(Refusal::Direction.number(), 2);
     /// assert_eq!(Refusal::RunLength.number(), 4);
     /// assert_eq!(Refusal::TagLength.number(), 23);
+    /// assert_eq!(Refusal::TagDiffers.number(), 25);
     /// ```
     pub const fn number(self) -> u32 {
         match self {
@@ -186,6 +189,7 @@ impl Refusal {
             Refusal::Direction => 2,
             Refusal::RunLength => 4,
             Refusal::TagLength => 23,
+            Refusal::TagDiffers => 25,
         }
     }
 
@@ -195,6 +199,7 @@ impl Refusal {
             Refusal::Direction => "the direction is neither 0 nor 1",
             Refusal::RunLength => "the run's length is not a multiple of 16",
             Refusal::TagLength => "the tag is not 16 bytes long",
+            Refusal::TagDiffers => "the tag differs",
         }
     }
 }
@@ -357,28 +362,26 @@ pub fn cmac(key: &[u8], run: &[u8]) -> Result<[u8; 16], Refusal> {
     }
 }
 
-/// Whether `tag` is the CMAC of `run` under `key`.
+/// Whether `tag` is the CMAC of `run` under `key`: `Ok` is yes.
 ///
-/// `Ok(true)` is yes and `Ok(false)` is no. A wrong tag is no error, so `?` alone lets it by: use
-/// the value. All sixteen bytes are looked at whatever they are, where a comparison with what
-/// [`cmac`] gives may end at the first that differs.
-///
-/// Refused with the first that applies: [`Refusal::KeyLength`], [`Refusal::TagLength`].
+/// No is the error [`Refusal::TagDiffers`], so that `?` does not let a wrong tag by. Before it come
+/// [`Refusal::KeyLength`] and [`Refusal::TagLength`], in this order. All sixteen bytes are looked at
+/// whatever they are, where a comparison with what [`cmac`] gives may end at the first that differs.
 ///
 /// ```
 /// use aria_host::{cmac, verify_cmac, Refusal};
 ///
 /// let key = b"twenty-four bytes of key";
 /// let mut tag = cmac(key, b"dried")?;
-/// assert!(verify_cmac(key, b"dried", &tag)?);
-/// assert!(!verify_cmac(key, b"tried", &tag)?);
+/// verify_cmac(key, b"dried", &tag)?;
+/// assert_eq!(verify_cmac(key, b"tried", &tag), Err(Refusal::TagDiffers));
 ///
 /// tag[15] ^= 1;
-/// assert_eq!(verify_cmac(key, b"dried", &tag), Ok(false));
+/// assert_eq!(verify_cmac(key, b"dried", &tag), Err(Refusal::TagDiffers));
 /// assert_eq!(verify_cmac(key, b"dried", &tag[..8]), Err(Refusal::TagLength));
 /// # Ok::<(), Refusal>(())
 /// ```
-pub fn verify_cmac(key: &[u8], run: &[u8], tag: &[u8]) -> Result<bool, Refusal> {
+pub fn verify_cmac(key: &[u8], run: &[u8], tag: &[u8]) -> Result<(), Refusal> {
     // SAFETY: the slices are valid for their lengths, and nothing is written. The library's
     // function has no `requires`: it is proved safe for every key, run and tag.
     let answer = unsafe {
@@ -392,10 +395,10 @@ pub fn verify_cmac(key: &[u8], run: &[u8], tag: &[u8]) -> Result<bool, Refusal> 
         )
     };
     match answer {
-        0 => Ok(true),
-        25 => Ok(false),
+        0 => Ok(()),
         1 => Err(Refusal::KeyLength),
         23 => Err(Refusal::TagLength),
+        25 => Err(Refusal::TagDiffers),
         other => unreachable!("the library is proved to answer 0, 1, 23 or 25, not {other}"),
     }
 }

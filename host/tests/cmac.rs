@@ -111,7 +111,7 @@ fn compare(key: &[u8], run: &[u8], before: &[u8; 16], offset: usize) {
     made.expect(key, run, &expected, &case);
 
     assert_eq!(cmac(key, run), Ok(expected), "{case}");
-    assert_eq!(verify_cmac(key, run, &expected), Ok(true), "{case}");
+    assert_eq!(verify_cmac(key, run, &expected), Ok(()), "{case}");
 }
 
 /// As above, what stood there and the starts in memory by chance.
@@ -126,7 +126,11 @@ fn sixteen(random: &mut Random) -> [u8; 16] {
 }
 
 fn says_no(key: &[u8], run: &[u8], tag: &[u8; 16], case: Arguments) {
-    assert_eq!(verify_cmac(key, run, tag), Ok(false), "{case}");
+    assert_eq!(
+        verify_cmac(key, run, tag),
+        Err(Refusal::TagDiffers),
+        "{case}"
+    );
 }
 
 /// `other` does not pass for the run's tag. It is left out where it happens to be that tag.
@@ -294,7 +298,7 @@ fn tagged(random: &mut Random, mut test: impl FnMut(&mut Random, &[u8], &[u8], [
         for len in [0, 1, 15, 16, 17, 32, 100, 4096] {
             let (key, run) = (random.bytes(key_len), random.bytes(len));
             let tag = Cmac::new(key_len).tag(&key, &run);
-            assert_eq!(verify_cmac(&key, &run, &tag), Ok(true));
+            assert_eq!(verify_cmac(&key, &run, &tag), Ok(()));
             test(random, &key, &run, tag);
         }
     }
@@ -504,7 +508,7 @@ fn the_typed_calls_refuse_alike() {
             }
             for tag_len in 0..=40 {
                 let expected = match refusal(key_len, tag_len) {
-                    None => Ok(false),
+                    None => Err(Refusal::TagDiffers),
                     Some(1) => Err(Refusal::KeyLength),
                     Some(_) => Err(Refusal::TagLength),
                 };

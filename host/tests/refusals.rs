@@ -110,6 +110,7 @@ fn a_refusal_says_its_number() {
         (Refusal::Direction, 2),
         (Refusal::RunLength, 4),
         (Refusal::TagLength, 23),
+        (Refusal::TagDiffers, 25),
     ] {
         assert_eq!(refusal.number(), number);
         assert!(refusal

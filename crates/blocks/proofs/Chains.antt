@@ -1,5 +1,5 @@
--- Laws of a chain over the blocks of a run, over any function of a block: its length, a turn of the loop that makes it, and that it reads the blocks that
--- it takes in and no others.
+-- Laws of a chain over the blocks of a run, over any function of a block: its length, a turn of the loop that makes it, and that it reads
+-- the blocks that it takes in and no others.
 -- Assumes nothing.
 use mathlib.Core.Path.{_≡_, refl, sym, ap, ap₂, _∙_}
 use mathlib.Core.List.{List}

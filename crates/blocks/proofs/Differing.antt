@@ -1,4 +1,4 @@
--- The loop that compares two blocks without an early end: what it gathers is 0 exactly where the bytes that it has passed are equal in pairs.
+-- The loop that compares two blocks without an early end: what it gathers is 0 exactly where the bytes that it has passed are equal.
 -- Assumes nothing.
 use mathlib.Core.Path.{_≡_, refl, sym, ap, ap₂, _∙_}
 use mathlib.Core.Bool.{Bool, true, false}

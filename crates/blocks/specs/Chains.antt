@@ -1,5 +1,5 @@
--- A chain over the blocks of a run, over any function f of a block: the value so far plus the next block, through f. With a block cipher for
--- f it is CBC-MAC's (SP 800-38B, section 6.2, step 6: "Ci = CIPHK(Ci-1 ⊕ Mi)").
+-- A chain over the blocks of a run, over any function f of a block: the value so far plus the next block, through f. With a block cipher
+-- for f it is CBC-MAC's (SP 800-38B, section 6.2, step 6: "Ci = CIPHK(Ci-1 ⊕ Mi)").
 -- Assumes nothing.
 use mathlib.Core.List.{List}
 use Prim.Native.Nat.{ℕ, zero, suc}

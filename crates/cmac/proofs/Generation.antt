@@ -29,8 +29,8 @@ use Rattle.cmac.specs.Cmac.{blocksBefore, lastPart, lastBlock, macOf}
 use Rattle.cmac.specs.Tag.{tagUnder}
 
 -- a byte put behind a part of at most a block; where the part is a block, there is no room and it stays as it is
-pub filled-law : (part b mark out : List ℕ) (r : ℕ) → length part ≤ 16 → mark ≡ 0x80 ∷ [] → b ≡ blockOf part → Puts b (length part) mark r out
-    → out ≡ blockOf (part ++ 0x80 ∷ [])
+pub filled-law : (part b mark out : List ℕ) (r : ℕ) → length part ≤ 16 → mark ≡ 0x80 ∷ [] → b ≡ blockOf part
+    → Puts b (length part) mark r out → out ≡ blockOf (part ++ 0x80 ∷ [])
 filled-law part b mark out r h em eb p =
     let one : length mark ≡ 1 = ap length em in
     let sixteen : length b ≡ 16 = ap length eb ∙ length-block part in

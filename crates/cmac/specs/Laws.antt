@@ -1,5 +1,5 @@
--- What is claimed of CMAC with ARIA (02, c: "A comparison call says yes exactly when the lent 16 bytes are that tag"), over the very numbers
--- and records that the contracts cite.
+-- What is claimed of CMAC with ARIA (02, c: "A comparison call says yes exactly when the lent 16 bytes are that tag"), over the numbers and
+-- records that the contracts cite.
 -- Assumes nothing.
 use mathlib.Core.Path.{_≡_}
 use mathlib.Core.Bool.{true, false}

@@ -21,7 +21,8 @@ put-requires c κs = search needs
 returns : tie.Need-returns
 returns c =
     let start = c .before .before .before .before .before .before in
-    filled-law (start .args .part .now) _ _ _ _ (start .pre) refl (c .before .before .before .before .load .ensures) (c .before .put .ensures)
+    filled-law (start .args .part .now) _ _ _ _ (start .pre) refl (c .before .before .before .before .load .ensures)
+    (c .before .put .ensures)
 
 pub filled-spec : {M : Type 1} → statement M
 filled-spec =

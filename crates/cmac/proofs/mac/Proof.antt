@@ -33,7 +33,8 @@ returns c =
     let count = last .before in
     let start = count .before .before in
     let a = start .args in
-    mac-law (a .run .now) (a .schedule) (start .pre) _ (last .part .result .now) _ _ _ _ _ (ap (λ (n : ℕ). 16 * n) (count .blocks-before .ensures))
+    mac-law (a .run .now) (a .schedule) (start .pre) _ (last .part .result .now) _ _ _ _ _
+    (ap (λ (n : ℕ). 16 * n) (count .blocks-before .ensures))
     (last .part .ensures .bytes) refl (c .before .before .before .part2 .ensures .bytes) (c .before .before .filled .ensures)
     (c .before .chain .ensures)
 

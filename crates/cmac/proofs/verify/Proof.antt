@@ -21,7 +21,9 @@ returns : tie.Need-returns
 returns c =
     let p = c .before .prepare in
     let a = c .before .before .before .before .before .args in
-    let some : firstOf (keyCases (length (a .key .now))) ≡ 0 → ⊥ = λ q. number-else (p .result .outcome) (c .match .keys2) (p .ensures .number ∙ q) in
+    let some : firstOf (keyCases (length (a .key .now))) ≡ 0 → ⊥ =
+    λ q. number-else (p .result .outcome) (c .match .keys2) (p .ensures .number ∙ q)
+    in
     sym (verify-before _ (key-positive _) _ (a .run .now) (a .tag .now) some ∙ key-1 _ (key-bad _ some))
 
 verify-under-requires : tie.Need-verify-under-requires
@@ -33,8 +35,8 @@ returns-2 c =
     let told = c .before .enum-told .given .1 in
     let a = c .before .before .before .before .before .before .before .args in
     c .verify-under .ensures
-    ∙ verify-alike _ _ _ _ (a .run .now) (a .tag .now) (rounds-positive _) (key-positive _) (rounds-0 _ (rounds-ready _ _ (p .ensures) told))
-    (key-0 _ (key-ready _ _ (p .ensures) told)) (p .ensures .schedule)
+    ∙ verify-alike _ _ _ _ (a .run .now) (a .tag .now) (rounds-positive _) (key-positive _)
+    (rounds-0 _ (rounds-ready _ _ (p .ensures) told)) (key-0 _ (key-ready _ _ (p .ensures) told)) (p .ensures .schedule)
 
 pub verify-spec : {M : Type 1} → statement M
 verify-spec =

@@ -41,7 +41,8 @@ returns-3 c =
     let none = sym (r .«rounds» .ensures) ∙ m .before .before .if1 .left in
     let h = m .before .if2 .left in
     let same = same-tag (a .schedule) (a .run .now) (a .tag .now) _ _ h (m .mac .ensures) (c .before .before .load .ensures) in
-    sym (verify-0 _ (rounds-positive _) (a .schedule) (a .run .now) (a .tag .now) none h (same ∙ sym (c .before .equal .ensures) ∙ c .if3 .taken))
+    sym (verify-0 _ (rounds-positive _) (a .schedule) (a .run .now) (a .tag .now) none h
+    (same ∙ sym (c .before .equal .ensures) ∙ c .if3 .taken))
 
 returns-4 : tie.Need-returns-4
 returns-4 c =
@@ -51,7 +52,8 @@ returns-4 c =
     let none = sym (r .«rounds» .ensures) ∙ m .before .before .if1 .left in
     let h = m .before .if2 .left in
     let same = same-tag (a .schedule) (a .run .now) (a .tag .now) _ _ h (m .mac .ensures) (c .before .before .load .ensures) in
-    sym (verify-25 _ (rounds-positive _) (a .schedule) (a .run .now) (a .tag .now) none h (same ∙ sym (c .before .equal .ensures) ∙ c .if3 .left))
+    sym (verify-25 _ (rounds-positive _) (a .schedule) (a .run .now) (a .tag .now) none h
+    (same ∙ sym (c .before .equal .ensures) ∙ c .if3 .left))
 
 pub verify-under-spec : {M : Type 1} → statement M
 verify-under-spec =

@@ -35,7 +35,9 @@ returns c =
     c .encrypt-one2 .ensures
     ∙ ap (aria (a .n) (a .keys .now))
     (sum .xor2 .ensures
-    ∙ ap (xorBlock (a .x)) (masked .xor .ensures ∙ ap (xorBlock (a .last)) (key .subkey .ensures ∙ ap (subkeyFor (a .complete)) (l .encrypt-one .ensures))))
+    ∙ ap (xorBlock (a .x))
+    (masked .xor .ensures
+    ∙ ap (xorBlock (a .last)) (key .subkey .ensures ∙ ap (subkeyFor (a .complete)) (l .encrypt-one .ensures))))
 
 pub chain-last-spec : {M : Type 1} → statement M
 chain-last-spec =
