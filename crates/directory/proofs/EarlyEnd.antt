@@ -7,7 +7,7 @@ use Prim.Native.Nat.{ℕ, suc, _+_, _*_, _<_, _≤_}
 use native.Mathlib.Omega.{arith}
 use borrow.Author.Tests.{ltb-true, ltb-false}
 use lib.Dec.{eqb, ltb}
-use lib.ListN.{length, take}
+use lib.ListN.{take}
 use Rattle.refusals.specs.Cases.{when, firstOf}
 use Rattle.refusals.specs.Answers.{answer}
 use Rattle.octets.specs.Below.{firstIndex}

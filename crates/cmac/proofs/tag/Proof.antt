@@ -1,6 +1,6 @@
 -- `cmac::tag` meets its contract: the outcome of the preparation is taken out first, then the run is tagged under the schedule.
 -- Assumes nothing.
-use mathlib.Core.Path.{refl, sym, ap, _∙_}
+use mathlib.Core.Path.{refl}
 use borrow.Author.Needs.{needs}
 use Rattle.refusals.proofs.Shared.{rounds-0, key-0}
 use Rattle.expansion.proofs.Taken.{number-else, key-ready, rounds-ready}

@@ -1,8 +1,6 @@
 -- `tables::chain_last` meets its contract: L, its subkey and the sums, one after the other.
 -- Assumes nothing.
-use mathlib.Core.Path.{ap, ap₂, _∙_}
-use mathlib.Core.List.{List}
-use Prim.Native.Nat.{ℕ}
+use mathlib.Core.Path.{ap, _∙_}
 use borrow.Author.Needs.{needs}
 use Rattle.blocks.specs.Xor.{xorBlock}
 use Rattle.circuit.specs.Circuit.{aria}
