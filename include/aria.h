@@ -43,18 +43,15 @@ extern "C" {
 #define ARIA_FORWARD UINT32_C(0) /* encrypt */
 #define ARIA_BACK UINT32_C(1)    /* decrypt */
 
-/* Answers: ARIA_OK, or the first refusal that applies, in this order. The numbers leave gaps
- * because they are those of the README's list of refusals, of which a block run can give three and
- * CMAC two. */
+/* Answers: ARIA_OK, or the first that applies, in this order. The numbers leave gaps because they
+ * are those of the README's list of refusals, of which a block run can give three, CMAC two, and its
+ * comparison one more. */
 #define ARIA_OK UINT32_C(0)
 #define ARIA_REFUSED_KEY_LENGTH UINT32_C(1)  /* the key is not 16, 24 or 32 bytes long */
 #define ARIA_REFUSED_DIRECTION UINT32_C(2)   /* the direction is neither 0 nor 1 */
 #define ARIA_REFUSED_RUN_LENGTH UINT32_C(4)  /* the run's length is not a multiple of 16 */
 #define ARIA_REFUSED_TAG_LENGTH UINT32_C(23) /* the lent tag is not 16 bytes long */
-
-/* No: the answer of aria_cmac_verify where the tag is another one. ARIA_OK is its yes. It is no
- * refusal: the call was carried out. */
-#define ARIA_TAG_DIFFERS UINT32_C(25)
+#define ARIA_TAG_DIFFERS UINT32_C(25)        /* aria_cmac_verify's no; ARIA_OK is its yes */
 
 /*
  * Encrypts or decrypts every block of the run in place, by byte boxes.
@@ -83,6 +80,9 @@ uint32_t aria_run_tables(const uint8_t *key, size_t key_len, uint32_t direction,
 
 /*
  * Writes the CMAC of the run under the key: the whole tag of sixteen bytes, not cut short.
+ *
+ * Keep a key for tags alone. Under a key that also encrypts, whoever knows blocks both in plain and
+ * encrypted can make other bytes with the same tag.
  *
  *   key        the key; read, never written.
  *   key_len    the number of bytes at key: 16, 24 or 32, else the answer is 1.

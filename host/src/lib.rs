@@ -328,6 +328,9 @@ fn answer(engine: Engine, key: &[u8], direction: u32, run: &mut [u8]) -> u32 {
 /// The run may have any length, 0 included. Refused with [`Refusal::KeyLength`] alone. To verify a
 /// tag, call [`verify_cmac`].
 ///
+/// Keep a key for tags alone. Under a key that also encrypts, whoever knows blocks both in plain and
+/// encrypted can make other bytes with the same tag.
+///
 /// ```
 /// use aria_host::{cmac, Refusal};
 ///
@@ -366,7 +369,7 @@ pub fn cmac(key: &[u8], run: &[u8]) -> Result<[u8; 16], Refusal> {
 ///
 /// No is the error [`Refusal::TagDiffers`], so that `?` does not let a wrong tag by. Before it come
 /// [`Refusal::KeyLength`] and [`Refusal::TagLength`], in this order. All sixteen bytes are looked at
-/// whatever they are, where a comparison with what [`cmac`] gives may end at the first that differs.
+/// whatever they are; `==` on what [`cmac`] gives may end at the first that differs.
 ///
 /// ```
 /// use aria_host::{cmac, verify_cmac, Refusal};

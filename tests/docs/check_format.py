@@ -34,7 +34,7 @@ KEYS = [bytes(range(n)) for n in (16, 24, 32)]
 WORDS = {"a", "be", "add", "added"}
 # Words of a paper that the reader does not have.
 FOREIGN = [r"\b[Pp]lates?\b", r"\b[Cc]ontents\b", r"\b[Dd]ocument \d+", r"\b0[12]\b", r"\b[Dd]emand \d"]
-ROOTS = ["scheduleOf", "encrypted", "counterBlock", "keystream", "addStream"]
+ROOTS = ["scheduleOf", "encrypted", "counterBlock", "keystream", "addStream", "macOf"]
 # Sentences of rules that the cipher below, or the model, follows without reading them off the page: they must stand there as they are.
 FOLLOWED = [
     "The key is 16, 24 or 32 bytes long",
@@ -65,6 +65,11 @@ FOLLOWED = [
     "Key 17 is W0 ⊕ r(W1).",
     "rounds 1 to n - 1: FO with key i in an odd round i, FE with key i in an even one.",
     "E = layer two(block ⊕ key n) ⊕ key (n + 1).",
+    "as a number of 128 bits, byte 0 the most significant, it is shifted left by one bit; where the bit that falls out is 1,",
+    "L is E of sixteen bytes `00`. K1 is L doubled, K2 is K1 doubled.",
+    "The last block has 1 to 16 bytes; where there are no bytes at all, there is one block of none.",
+    "A last block of 16 bytes is ⊕ K1. Any other is filled up to 16 bytes by a byte `80` and then bytes `00`, and is ⊕ K2.",
+    "C is sixteen bytes `00` at first. For each block in turn, C becomes E(C ⊕ block). The C after the last block is the tag.",
 ]
 
 
@@ -422,6 +427,48 @@ def faults_of_aria(page):
 # ---- the project's definitions
 
 
+def tag_of(key, message, constant):
+    """The tag by the section's sentences."""
+
+    def doubled(block):
+        shifted = int.from_bytes(block, "big") * 2
+        return xor((shifted % 2**128).to_bytes(16, "big"), bytes(15) + bytes([constant * (shifted >> 128)]))
+
+    k1 = doubled(libcrypto.forward(key, bytes(16)))
+    blocks = [message[at : at + 16] for at in range(0, len(message), 16)] or [b""]
+    last = blocks.pop()
+    blocks.append(xor(last, k1) if len(last) == 16 else xor((last + b"\x80").ljust(16, b"\0"), doubled(k1)))
+    value = bytes(16)
+    for block in blocks:
+        value = libcrypto.forward(key, xor(value, block))
+    return value
+
+
+def tagged(cell, file):
+    """The bytes that a cell of the tags' table speaks of."""
+    return {
+        "no bytes": b"",
+        "the first 16 bytes of the archive above": file[:16],
+        "the archive above, 57 bytes": file,
+    }[cell]
+
+
+def faults_of_tags(page):
+    """The tags are libcrypto's, and so are those that the section's rule gives."""
+    rows = page.table("tag key", "bytes", "tag")
+    if [key_of(row[0]) for row in rows] != KEYS:
+        yield "the tags are not under the RFC's three keys"
+    (constant,) = re.search(r"the last byte is ⊕ `(\w\w)`", page.text).groups()
+    file = read("examples/sample/archive.bin", "rb")
+    for cell, what, tag in rows:
+        if octets(tag) != libcrypto.cmac(key_of(cell), tagged(what, file)):
+            yield "%s, %s: the tag is not libcrypto's" % (cell, what)
+    for key in KEYS:
+        for length in range(50):
+            if tag_of(key, (file * 2)[:length], int(constant, 16)) != libcrypto.cmac(key, (file * 2)[:length]):
+                yield "the section gives another tag of %d bytes than libcrypto" % length
+
+
 def faults_of_definitions(page):
     """The definitions that the page names, and that these need, are all in its files, in its order, or explained."""
     rows = page.table("file", "what it defines", "names")
@@ -482,6 +529,11 @@ def faults_of_computing(page):
         yield "the definitions do not open the sample"
     if bytes(computed("addStream", stream, 1, file[53:56])) != b"rie":
         yield "the definitions do not open a range of the sample"
+    for cell, what, tag in page.table("tag key", "bytes", "tag"):
+        schedule = computed("scheduleOf", tuple(key_of(cell)))
+        made = computed("macOf", computed("encrypted", schedule), tuple(tagged(what, bytes(file))))
+        if bytes(made) != octets(tag):
+            yield "%s, %s: the definitions give the tag %s" % (cell, what, bytes(made).hex(" "))
 
 
 def faults_of_paths(page):
@@ -501,6 +553,7 @@ def main():
         faults_of_key_checks,
         faults_of_text,
         faults_of_aria,
+        faults_of_tags,
         faults_of_definitions,
         faults_of_computing,
         faults_of_paths,
@@ -518,7 +571,7 @@ def main():
     spans = sum(1 for span in page.spans if BYTES.fullmatch(span))
     seen = [
         "the example is the sample's and libcrypto's",
-        "ARIA in short gives the RFC's vectors",
+        "ARIA in short gives the RFC's vectors and the rule of CMAC libcrypto's tags",
         "so do the definitions",
         "%d spans of bytes keep the rule" % spans,
         "the command was run" if runs_command() else "the command was not run, for want of openssl or xxd",

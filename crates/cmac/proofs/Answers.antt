@@ -22,7 +22,7 @@ use Rattle.blocks.proofs.Blocks.{block-whole}
 use Rattle.circuit.specs.declared.Schedule.{Schedule}
 use Rattle.expansion.specs.Outcomes.{number}
 use Rattle.expansion.specs.KeySchedule.{scheduleOf}
-use Rattle.cmac.specs.Tag.{tagUnder, Tags, tagCases, verifyCases, WritesTag}
+use Rattle.cmac.specs.Tag.{tagUnder, Tags, tagCases, verifyCases, writeNumber, WritesTag}
 use Rattle.cmac.specs.declared.Tagged.{Tagged}
 
 -- what stands in place of a refusal
@@ -110,33 +110,37 @@ verify-alike a b s t run tag p q za zb e =
 
 -- ---- writing
 
-module _ (key run before : List ℕ) where
-  abbrev cases : List Case
-  cases = keyCases (length key) ++ tagCases (length before)
+-- a good key, and the lent tag is asked; a bad one is the answer
+pub past-key : (n len : ℕ) → goodKey n ≡ true → writeNumber n len ≡ firstOf (tagCases len)
+past-key n len good = first-pass (keyCases n) _ (key-positive n) (key-0 n good)
 
-  left : (n : ℕ) → (n ≡ 0 → ⊥) → n ≡ firstOf cases → before ≡ unlessRefused (firstOf cases) (tagUnder (scheduleOf key) run) before
-  left n h e = sym (in-place (firstOf cases) (tagUnder (scheduleOf key) run) before (λ q. h (e ∙ q)))
+pub bad-key : (n len : ℕ) → (firstOf (keyCases n) ≡ 0 → ⊥) → writeNumber n len ≡ firstOf (keyCases n)
+bad-key n len h = first-stop (keyCases n) _ h
+
+module _ (key run before : List ℕ) where
+  abbrev number-of : ℕ
+  number-of = writeNumber (length key) (length before)
+
+  left : (n : ℕ) → (n ≡ 0 → ⊥) → n ≡ number-of → before ≡ unlessRefused number-of (tagUnder (scheduleOf key) run) before
+  left n h e = sym (in-place number-of (tagUnder (scheduleOf key) run) before (λ q. h (e ∙ q)))
 
   -- refused for its key, the lent tag is left alone
   pub writes-key : (r : ℕ) → r ≡ firstOf (keyCases (length key)) → (r ≡ 0 → ⊥) → WritesTag key run before r before
   writes-key r e h =
-      let n : r ≡ firstOf cases = e ∙ sym (first-stop (keyCases (length key)) _ (λ q. h (e ∙ q))) in
+      let n : r ≡ number-of = e ∙ sym (bad-key (length key) (length before) (λ q. h (e ∙ q))) in
       record { number = n; bytes = left r h n }
 
   module _ (good : goodKey (length key) ≡ true) where
-    past-key : firstOf cases ≡ firstOf (tagCases (length before))
-    past-key = first-pass (keyCases (length key)) _ (key-positive (length key)) (key-0 (length key) good)
-
     -- and refused for its own length
     pub writes-23 : (length before ≡ 16 → ⊥) → WritesTag key run before 23 before
     writes-23 h =
-        let n : 23 ≡ firstOf cases = sym (past-key ∙ tag-23 (length before) h) in
+        let n : 23 ≡ number-of = sym (past-key (length key) (length before) good ∙ tag-23 (length before) h) in
         record { number = n; bytes = left 23 (λ q. omega (arith, q)) n }
 
     pub writes-tag : (s : Schedule) (tag after : List ℕ) → length before ≡ 16 → length tag ≡ 16 → s ≡ scheduleOf key → tag ≡ tagUnder s run
         → after ≡ overwritten tag before → WritesTag key run before 0 after
     writes-tag s tag after h l es et ea =
-        let n : firstOf cases ≡ 0 = past-key ∙ tag-0 (length before) h in
+        let n : number-of ≡ 0 = past-key (length key) (length before) good ∙ tag-0 (length before) h in
         record {
           number = sym n;
           bytes =

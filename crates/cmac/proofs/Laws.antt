@@ -2,13 +2,13 @@
 -- Assumes nothing.
 use mathlib.Core.Path.{_≡_, refl, sym, ap, _∙_}
 use mathlib.Core.Bool.{Bool, true, false, not}
-use mathlib.Core.List.{List, [], _∷_, _++_}
+use mathlib.Core.List.{List, [], _∷_}
 use Prim.Native.Nat.{ℕ}
 use native.Mathlib.Omega.{arith}
 use lib.ListN.{length}
 use Rattle.refusals.specs.Cases.{Case, when, firstOf, positive}
 use Rattle.refusals.specs.Answers.{unlessRefused}
-use Rattle.refusals.specs.Shared.{keyCases, roundsCases}
+use Rattle.refusals.specs.Shared.{goodKey, keyCases, goodRounds, roundsCases}
 use Rattle.refusals.proofs.Cases.{one-applies, first-none}
 use Rattle.refusals.proofs.Shared.{key-positive, key-0, key-1, key-good, rounds-positive, rounds-0, rounds-3, rounds-good}
 use Rattle.octets.specs.Equality.{sameBytes}
@@ -19,11 +19,13 @@ use Rattle.blocks.proofs.Chains.{length-chain}
 use Rattle.circuit.specs.Run.{encrypted}
 use Rattle.circuit.specs.declared.Schedule.{Schedule}
 use Rattle.circuit.proofs.Runs.{length-encrypted}
+use Rattle.expansion.specs.Outcomes.{number}
 use Rattle.expansion.specs.KeySchedule.{scheduleOf}
 use Rattle.cmac.specs.Cmac.{blocksBefore, macOf}
-use Rattle.cmac.specs.Tag.{tagUnder, tagCases, verifyCases}
-use Rattle.cmac.specs.Laws.{TagSize, Comparison, ComparisonUnder, WrittenVerifies}
-use Rattle.cmac.proofs.Answers.{tag-positive, verify-before, verify-23, verify-0, verify-25}
+use Rattle.cmac.specs.Tag.{tagUnder, Tags, tagCases, verifyCases, writeNumber}
+use Rattle.cmac.specs.Laws.{TagSize, Compares, Comparison, ComparisonUnder, Writing, MadeVerifies}
+use Rattle.cmac.specs.declared.Tagged.{Tagged}
+use Rattle.cmac.proofs.Answers.{tag-positive, tag-0, tag-23, verify-before, verify-23, verify-0, verify-25, past-key, bad-key}
 
 pub tag-size : TagSize
 unfolding tagUnder macOf
@@ -51,39 +53,63 @@ module _ (cases : List Case) (p : positive cases ≡ true) (s : Schedule) (run t
   no-cases : firstOf cases ≡ 0 → length tag ≡ 16 → (tag ≡ tagUnder s run → ⊥) → firstOf (verifyCases cases s run tag) ≡ 25
   no-cases z h n = verify-25 cases p s run tag z h (ne-same (tagUnder s run) tag (λ e. n (sym e)))
 
-refused : (cases : List Case) → positive cases ≡ true → (s : Schedule) (run tag : List ℕ) (n : ℕ) → firstOf cases ≡ n → (n ≡ 0 → ⊥)
-    → firstOf (verifyCases cases s run tag) ≡ n
-refused cases p s run tag n e h = verify-before cases p s run tag (λ q. h (sym e ∙ q)) ∙ e
+-- both comparisons, by the cases that stand before the tag's
+compares : (cases : List Case) → positive cases ≡ true → (good : Bool) (n : ℕ) → (firstOf cases ≡ 0 → good ≡ true)
+    → (good ≡ true → firstOf cases ≡ 0) → (good ≡ false → firstOf cases ≡ n) → (n ≡ 0 → ⊥) → (s : Schedule) (run tag : List ℕ)
+    → Compares good n s run tag (firstOf (verifyCases cases s run tag))
+compares cases p good n back zero some h s run tag =
+    record {
+      only-yes = λ e. let r = yes-cases cases p s run tag e in (back (r .0), r .1);
+      always-yes = λ g e. tag-cases cases p s run tag (zero g) e;
+      no-25 = λ g l e. no-cases cases p s run tag (zero g) l e;
+      length-23 = λ g l. verify-23 cases p s run tag (zero g) l;
+      refused = λ b. verify-before cases p s run tag (λ q. h (sym (some b) ∙ q)) ∙ some b;
+    }
 
 pub comparison : Comparison
 comparison key run tag =
-    let n : ℕ = length key in
-    let s : Schedule = scheduleOf key in
-    let p = key-positive n in
-    record {
-      yes = λ e. let r = yes-cases (keyCases n) p s run tag e in (key-good n (r .0), r .1);
-      tag-yes = λ good e. tag-cases (keyCases n) p s run tag (key-0 n good) e;
-      key-1 = λ bad. refused (keyCases n) p s run tag 1 (key-1 n bad) (λ q. omega (arith, q));
-      length-23 = λ good h. verify-23 (keyCases n) p s run tag (key-0 n good) h;
-      no-25 = λ good h e. no-cases (keyCases n) p s run tag (key-0 n good) h e;
-    }
+    compares (keyCases (length key)) (key-positive (length key)) (goodKey (length key)) 1 (key-good (length key)) (key-0 (length key))
+    (key-1 (length key)) (λ q. omega (arith, q)) (scheduleOf key) run tag
 
 pub comparison-under : ComparisonUnder
 comparison-under s run tag =
-    let n : ℕ = s .rounds in
-    let p = rounds-positive n in
-    record {
-      yes = λ e. let r = yes-cases (roundsCases n) p s run tag e in (rounds-good n (r .0), r .1);
-      tag-yes = λ good e. tag-cases (roundsCases n) p s run tag (rounds-0 n good) e;
-      rounds-3 = λ bad. refused (roundsCases n) p s run tag 3 (rounds-3 n bad) (λ q. omega (arith, q));
-      length-23 = λ good h. verify-23 (roundsCases n) p s run tag (rounds-0 n good) h;
-      no-25 = λ good h e. no-cases (roundsCases n) p s run tag (rounds-0 n good) h e;
-    }
+    compares (roundsCases (s .rounds)) (rounds-positive (s .rounds)) (goodRounds (s .rounds)) 3 (rounds-good (s .rounds))
+    (rounds-0 (s .rounds)) (rounds-3 (s .rounds)) (λ q. omega (arith, q)) s run tag
 
-pub written-verifies : WrittenVerifies
-written-verifies key run before r after w e =
-    let n = length key in
-    let z : firstOf (keyCases n ++ tagCases (length before)) ≡ 0 = sym (w .number) ∙ e in
-    let good : firstOf (keyCases n) ≡ 0 = first-none (keyCases n) _ (key-positive n) z .0 in
-    tag-cases (keyCases n) (key-positive n) (scheduleOf key) run after good
-    (w .bytes ∙ ap (λ (k : ℕ). unlessRefused k (tagUnder (scheduleOf key) run) before) z)
+pub writing : Writing
+writing key run before r after w =
+    record {
+      done = λ g l. let n = past-key (length key) (length before) g ∙ tag-0 (length before) l in (w .number ∙ n, bytes 0 n);
+      length-23 = λ g l. let n = past-key (length key) (length before) g ∙ tag-23 (length before) l in (w .number ∙ n, bytes 23 n);
+      refused = λ b.
+          let one = key-1 (length key) b in
+          let n = bad-key (length key) (length before) (λ q. omega (arith, one, q)) ∙ one in
+          (w .number ∙ n, bytes 1 n);
+    }
+  where
+    bytes : (n : ℕ) → writeNumber (length key) (length before) ≡ n → after ≡ unlessRefused n (tagUnder (scheduleOf key) run) before
+    bytes n e = w .bytes ∙ ap (λ (k : ℕ). unlessRefused k (tagUnder (scheduleOf key) run) before) e
+
+-- a tag that stands beside no refusal is the run's
+made : (cases : List Case) (s : Schedule) (run : List ℕ) (r : Tagged) → Tags cases s run r → number (r .outcome) ≡ 0
+    → (firstOf cases ≡ 0) × (r .tag ≡ tagUnder s run)
+made cases s run r t e =
+    let z : firstOf cases ≡ 0 = sym (t .number) ∙ e in
+    (z, t .tag ∙ ap (λ (k : ℕ). unlessRefused k (tagUnder s run) zeroBlock) z)
+
+pub made-verifies : MadeVerifies
+made-verifies =
+    record {
+      written = λ key run before r after w e.
+          let n = length key in
+          let z : writeNumber n (length before) ≡ 0 = sym (w .number) ∙ e in
+          let good : firstOf (keyCases n) ≡ 0 = first-none (keyCases n) _ (key-positive n) z .0 in
+          tag-cases (keyCases n) (key-positive n) (scheduleOf key) run after good
+          (w .bytes ∙ ap (λ (k : ℕ). unlessRefused k (tagUnder (scheduleOf key) run) before) z);
+      by-key = λ key run r t e.
+          let m = made (keyCases (length key)) (scheduleOf key) run r t e in
+          tag-cases (keyCases (length key)) (key-positive (length key)) (scheduleOf key) run (r .tag) (m .0) (m .1);
+      by-schedule = λ s run r t e.
+          let m = made (roundsCases (s .rounds)) s run r t e in
+          tag-cases (roundsCases (s .rounds)) (rounds-positive (s .rounds)) s run (r .tag) (m .0) (m .1);
+    }

@@ -1,5 +1,5 @@
 -- CMAC, NIST SP 800-38B, section 6.2 (MAC generation), for a block cipher f of 128-bit blocks and tags of 128 bits, over a message of any
--- number of bytes. The names of the standard's values are its own: L, K1, K2 (section 6.1), Mn*, Mn, Cn.
+-- number of bytes. L, K1 and K2 are those of section 6.1.
 -- Assumes nothing.
 use mathlib.Core.Bool.{cond}
 use mathlib.Core.List.{List, [], _∷_, _++_}
@@ -19,8 +19,8 @@ blocksBefore m = (length m - 1) / 16
 abbrev pub lastPart : List ℕ → List ℕ
 lastPart m = drop (16 * blocksBefore m) m
 
--- Mn from L and Mn* (step 4): "If Mn* is a complete block, let Mn = K1 ⊕ Mn*; else, let Mn = K2 ⊕ (Mn*||10j)", so that an incomplete block
--- is filled with a byte 80 and zero bytes
+-- Mn from L and Mn* (step 4): K1 ⊕ Mn* where Mn* is a complete block, and else K2 ⊕ (Mn* || 1 || 0 .. 0), as many bits 0 as fill the block:
+-- a byte 80 and zero bytes
 unfoldable pub lastBlock : List ℕ → List ℕ → List ℕ
 lastBlock l part = cond (eqb (length part) 16) (xorBlock part (subkey1 l)) (xorBlock (blockOf (part ++ 0x80 ∷ [])) (subkey2 l))
 

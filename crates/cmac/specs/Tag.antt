@@ -9,7 +9,7 @@ use lib.Dec.{eqb}
 use lib.ListN.{length}
 use Rattle.refusals.specs.Cases.{Case, when, firstOf}
 use Rattle.refusals.specs.Answers.{unlessRefused}
-use Rattle.refusals.specs.Shared.{keyCases}
+use Rattle.refusals.specs.Shared.{keyCases, roundsCases}
 use Rattle.octets.specs.Equality.{sameBytes}
 use Rattle.blocks.specs.Chains.{zeroBlock}
 use Rattle.circuit.specs.Run.{encrypted}
@@ -47,12 +47,18 @@ verdictNumber KeyLength = 1
 verdictNumber RoundCount = 3
 verdictNumber TagLength = 23
 
--- the number that a comparison under a key answers
+-- the number that a comparison answers, under a key and under a schedule
 abbrev pub verifyNumber : List ℕ → List ℕ → List ℕ → ℕ
 verifyNumber key run tag = firstOf (verifyCases (keyCases (length key)) (scheduleOf key) run tag)
 
--- the contract of writing the tag of a run under a key into a lent tag that held `before`: 1, 23 or 0, and the tag; a refusal leaves the
--- lent tag as it was
+abbrev pub verifyNumberUnder : Schedule → List ℕ → List ℕ → ℕ
+verifyNumberUnder s run tag = firstOf (verifyCases (roundsCases (s .rounds)) s run tag)
+
+-- the number that writing answers, of a key and of a lent tag of so many bytes: 1, then 23
+abbrev pub writeNumber : ℕ → ℕ → ℕ
+writeNumber keyLength len = firstOf (keyCases keyLength ++ tagCases len)
+
+-- the contract of writing the tag of a run under a key into a lent tag that held `before`; a refusal leaves the lent tag as it was
 pub record WritesTag (key run before : List ℕ) (r : ℕ) (after : List ℕ) : Type 0 where
-  pub number : r ≡ firstOf (keyCases (length key) ++ tagCases (length before))
-  pub bytes : after ≡ unlessRefused (firstOf (keyCases (length key) ++ tagCases (length before))) (tagUnder (scheduleOf key) run) before
+  pub number : r ≡ writeNumber (length key) (length before)
+  pub bytes : after ≡ unlessRefused (writeNumber (length key) (length before)) (tagUnder (scheduleOf key) run) before

@@ -7,11 +7,10 @@ ghost use mathlib.Core.Bool.{true};
 ghost use mathlib.Core.List.{[], _∷_, _++_};
 ghost use Prim.Native.Nat.{_-_, _/_, _≤_};
 ghost use lib.ListN.{length};
-ghost use Rattle.refusals.specs.Cases.{firstOf};
 ghost use Rattle.refusals.specs.Shared.{goodRounds, keyCases, roundsCases};
 ghost use Rattle.blocks.specs.Blocks.{blockOf};
 ghost use Rattle.expansion.specs.KeySchedule.{scheduleOf};
-ghost use Rattle.cmac.specs.Tag.{tagUnder, Tags, verifyCases, verdictNumber, verifyNumber, WritesTag};
+ghost use Rattle.cmac.specs.Tag.{tagUnder, Tags, verdictNumber, verifyNumber, verifyNumberUnder, WritesTag};
 
 // An outcome, and beside it the tag: sixteen zero bytes where the outcome is a refusal.
 pub struct Tagged {
@@ -124,8 +123,7 @@ pub fn tag_into(key: &[u8], run: &[u8], tag: &mut [u8]) -> u32
 
 // Whether a lent tag is that of a run under a schedule: valid, invalid, 3 or 23. All its bytes are looked at, whichever differ.
 pub fn verify_under(schedule: Schedule, run: &[u8], tag: &[u8]) -> Verdict
-    ensures { λ r. ⌜ verdictNumber r
-        ≡ firstOf (verifyCases (roundsCases (schedule .rounds)) schedule (now (run .entry)) (now (tag .entry))) ⌝ }
+    ensures { λ r. ⌜ verdictNumber r ≡ verifyNumberUnder schedule (now (run .entry)) (now (tag .entry)) ⌝ }
 {
     if refusals::rounds(schedule.rounds) != 0 {
         return Verdict::RoundCount;

@@ -26,7 +26,7 @@ abbrev pub subkey1 : List ℕ → List ℕ
 subkey1 l = doubled l
 
 abbrev pub subkey2 : List ℕ → List ℕ
-subkey2 l = doubled (doubled l)
+subkey2 l = doubled (subkey1 l)
 
 -- the one that is added to the last block of a message (section 6.2, step 4): K1 where the message filled the block, and else K2
 unfoldable pub subkeyFor : Bool → List ℕ → List ℕ

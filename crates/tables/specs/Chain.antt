@@ -1,6 +1,7 @@
 -- CMAC's chain under a schedule (SP 800-38B, section 6.2, from step 4 on), over a message that is laid out in blocks: a run of whole
 -- blocks, and apart from it the last block, with whether the message filled it. L and the subkey come from the same tables as the chain, so
--- that a call makes these once.
+-- that a call makes these once. The standard's own definition is `macOf` of crate `cmac`, which lays the message out and proves that it
+-- comes to this.
 -- Assumes nothing.
 use mathlib.Core.Path.{_≡_}
 use mathlib.Core.Bool.{Bool}
