@@ -131,10 +131,10 @@ pub fn verify_under(schedule: Schedule, run: &[u8], tag: &[u8]) -> Verdict
     if tag.len() != 16 {
         return Verdict::TagLength;
     }
-    if blocks::equal(mac(schedule, run), blocks::load(tag)) {
-        return Verdict::Valid;
+    if !blocks::equal(mac(schedule, run), blocks::load(tag)) {
+        return Verdict::Invalid;
     }
-    Verdict::Invalid
+    Verdict::Valid
 }
 
 // Whether a lent tag is that of a run under a key: valid, invalid, 1 or 23.

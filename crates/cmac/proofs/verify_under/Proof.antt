@@ -2,6 +2,7 @@
 -- Assumes nothing.
 use mathlib.Core.Path.{_≡_, sym, _∙_}
 use borrow.Author.Needs.{needs}
+use borrow.Author.Tests.{not-true, not-false}
 use Rattle.refusals.specs.Cases.{firstOf}
 use Rattle.refusals.specs.Shared.{roundsCases}
 use Rattle.refusals.proofs.Shared.{rounds-positive, rounds-3, rounds-good, rounds-bad}
@@ -41,8 +42,8 @@ returns-3 c =
     let none = sym (r .«rounds» .ensures) ∙ m .before .before .if1 .left in
     let h = m .before .if2 .left in
     let same = same-tag (a .schedule) (a .run .now) (a .tag .now) _ _ h (m .mac .ensures) (c .before .before .load .ensures) in
-    sym (verify-0 _ (rounds-positive _) (a .schedule) (a .run .now) (a .tag .now) none h
-    (same ∙ sym (c .before .equal .ensures) ∙ c .if3 .taken))
+    sym (verify-25 _ (rounds-positive _) (a .schedule) (a .run .now) (a .tag .now) none h
+    (same ∙ sym (c .before .equal .ensures) ∙ not-true _ (c .if3 .taken)))
 
 returns-4 : tie.Need-returns-4
 returns-4 c =
@@ -52,8 +53,8 @@ returns-4 c =
     let none = sym (r .«rounds» .ensures) ∙ m .before .before .if1 .left in
     let h = m .before .if2 .left in
     let same = same-tag (a .schedule) (a .run .now) (a .tag .now) _ _ h (m .mac .ensures) (c .before .before .load .ensures) in
-    sym (verify-25 _ (rounds-positive _) (a .schedule) (a .run .now) (a .tag .now) none h
-    (same ∙ sym (c .before .equal .ensures) ∙ c .if3 .left))
+    sym (verify-0 _ (rounds-positive _) (a .schedule) (a .run .now) (a .tag .now) none h
+    (same ∙ sym (c .before .equal .ensures) ∙ not-false _ (c .if3 .left)))
 
 pub verify-under-spec : {M : Type 1} → statement M
 verify-under-spec =

@@ -1,4 +1,4 @@
--- `tables::chain_blocks` meets its contract: the blocks before `at` are taken in.
+-- `tables::chain_blocks` meets its contract: the blocks before `from` are taken in.
 -- Assumes nothing.
 use mathlib.Core.Path.{_≡_, refl, ap, _∙_}
 use mathlib.Core.List.{List}
@@ -13,10 +13,10 @@ use Rattle.tables.proofs.chain_blocks.Statement.{statement}
 use Rattle.tables.proofs.chain_blocks.Tie as tie
 
 abbrev Inv-loop : tie.InvT-loop
-Inv-loop t keys n run x₀ at₀ x at = (at ≤ length run) × (at % 16 ≡ 0) × (x ≡ chained (aria n keys) zeroBlock (at / 16) run)
+Inv-loop t keys n run x₀ from₀ x from = (from ≤ length run) × (from % 16 ≡ 0) × (x ≡ chained (aria n keys) zeroBlock (from / 16) run)
 
 abbrev μ-loop : tie.MeasureT-loop
-μ-loop t keys n run x₀ at₀ x at = length run - at
+μ-loop t keys n run x₀ from₀ x from = length run - from
 
 loop-holds : tie.Need-loop-holds Inv-loop μ-loop
 unfolding chained
@@ -54,7 +54,7 @@ loop-again c =
     let start = l .before .before in
     let a = start .args in
     let run : List ℕ = a .run .now in
-    let at : ℕ = l .loop .at in
+    let at : ℕ = l .loop .from in
     let whole : length run % 16 ≡ 0 = start .pre .2 in
     let aligned : at % 16 ≡ 0 = l .loop .inv .1 in
     let room : at + 16 ≤ length run = omega arith in (
@@ -68,7 +68,7 @@ returns : tie.Need-returns Inv-loop μ-loop
 returns c =
     let l = c .before .loop in
     let a = c .before .before .before .args in
-    let all : l .at ≡ length (a .run .now) = omega arith in
+    let all : l .from ≡ length (a .run .now) = omega arith in
     l .inv .2 ∙ ap (λ (k : ℕ). chained (aria (a .n) (a .keys .now)) zeroBlock (k / 16) (a .run .now)) all
 
 pub chain-blocks-spec : {M : Type 1} → statement M
