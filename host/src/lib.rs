@@ -334,9 +334,9 @@ fn answer(engine: Engine, key: &[u8], direction: u32, run: &mut [u8]) -> u32 {
 /// ```
 /// use aria_host::{cmac, Refusal};
 ///
-/// let key = b"sixteen key byte";
+/// let key = b"sixteen tag byte";
 /// let tag = cmac(key, b"a run of any length")?;
-/// assert_eq!(tag[..4], [0xae, 0xfb, 0x02, 0xec]);
+/// assert_eq!(tag[..4], [0xfe, 0x08, 0xab, 0x86]);
 /// assert_ne!(tag, cmac(key, b"a run of any lengths")?);
 /// assert_ne!(tag, cmac(b"another key's 16", b"a run of any length")?);
 ///
@@ -374,7 +374,7 @@ pub fn cmac(key: &[u8], run: &[u8]) -> Result<[u8; 16], Refusal> {
 /// ```
 /// use aria_host::{cmac, verify_cmac, Refusal};
 ///
-/// let key = b"twenty-four bytes of key";
+/// let key = b"a key of 24 bytes, a tag";
 /// let mut tag = cmac(key, b"dried")?;
 /// verify_cmac(key, b"dried", &tag)?;
 /// assert_eq!(verify_cmac(key, b"tried", &tag), Err(Refusal::TagDiffers));

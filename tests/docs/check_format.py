@@ -67,9 +67,9 @@ FOLLOWED = [
     "E = layer two(block ⊕ key n) ⊕ key (n + 1).",
     "as a number of 128 bits, byte 0 the most significant, it is shifted left by one bit; where the bit that falls out is 1,",
     "L is E of sixteen bytes `00`. K1 is L doubled, K2 is K1 doubled.",
-    "The last block has 1 to 16 bytes; where there are no bytes at all, there is one block of none.",
-    "A last block of 16 bytes is ⊕ K1. Any other is filled up to 16 bytes by a byte `80` and then bytes `00`, and is ⊕ K2.",
-    "C is sixteen bytes `00` at first. For each block in turn, C becomes E(C ⊕ block). The C after the last block is the tag.",
+    "The last piece has 1 to 16 bytes; where there are no bytes at all, there is one piece of none.",
+    "A last piece of 16 bytes is ⊕ K1. Any other is filled up to 16 bytes by a byte `80` and then bytes `00`, and is ⊕ K2.",
+    "C is sixteen bytes `00` at first. For each piece in turn, C becomes E(C ⊕ piece). The C after the last piece is the tag.",
 ]
 
 
@@ -424,7 +424,7 @@ def faults_of_aria(page):
             return
 
 
-# ---- the project's definitions
+# ---- tags
 
 
 def tag_of(key, message, constant):
@@ -467,6 +467,9 @@ def faults_of_tags(page):
         for length in range(50):
             if tag_of(key, (file * 2)[:length], int(constant, 16)) != libcrypto.cmac(key, (file * 2)[:length]):
                 yield "the section gives another tag of %d bytes than libcrypto" % length
+
+
+# ---- the project's definitions
 
 
 def faults_of_definitions(page):
