@@ -1,9 +1,2 @@
-pub mod Checking
-pub mod Accepted
 pub mod Finding
-pub mod Plaintext
-pub mod Opening
-pub mod Ranges
-pub mod EarlyEnd
-pub mod Spans
-pub mod Theorems
+pub mod Sound

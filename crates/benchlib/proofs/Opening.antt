@@ -5,7 +5,7 @@ use mathlib.Core.List.{List}
 use Prim.Native.Nat.{ℕ, zero, suc}
 use Rattle.refusals.specs.Answers.{Answer, answer, writtenFor}
 use Rattle.expansion.specs.KeySchedule.{scheduleOf}
-use Rattle.archive.specs.Open.{plainRange, Opens}
+use Rattle.opening.specs.Open.{plainRange, Opens}
 use Rattle.benchlib.specs.Opening.{refusalIn, BenchOpens}
 
 -- of an answer to cases, the first that applies
@@ -13,9 +13,9 @@ pub refusal-answer : (n v : ℕ) → refusalIn (answer n v) ≡ n
 refusal-answer zero v = refl
 refusal-answer (suc n) v = refl
 
-pub bench-opens : (key file number : List ℕ) (first count : ℕ) (before after : List ℕ) (a : Answer) (r : ℕ) → r ≡ refusalIn a
-    → Opens key file number first count before a after → BenchOpens key file number first count before r after
-bench-opens key file number first count before after a r e o = record {
+pub bench-opens : (key tagKey file number : List ℕ) (first count : ℕ) (before after : List ℕ) (a : Answer) (r : ℕ) → r ≡ refusalIn a
+    → Opens key tagKey file number first count before a after → BenchOpens key tagKey file number first count before r after
+bench-opens key tagKey file number first count before after a r e o = record {
   refusal = e ∙ ap refusalIn (o .answered) ∙ refusal-answer _ count;
   bytes = o .bytes ∙ ap (λ (b : Answer). writtenFor b (plainRange (scheduleOf key) file number first count) before) (o .answered);
 }

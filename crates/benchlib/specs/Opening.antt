@@ -7,7 +7,7 @@ use lib.ListN.{length}
 use Rattle.refusals.specs.Cases.{firstOf}
 use Rattle.refusals.specs.Answers.{Answer, refused, gives, writtenFor}
 use Rattle.expansion.specs.KeySchedule.{scheduleOf}
-use Rattle.archive.specs.Open.{plainRange, openCases, openOf}
+use Rattle.opening.specs.Open.{plainRange, openCases, openOf}
 
 -- the refusal that an answer is, 0 for none: what a call gives is not told
 abbrev pub refusalIn : Answer → ℕ
@@ -15,7 +15,7 @@ refusalIn (refused n) = n
 refusalIn (gives n) = 0
 
 -- the contract of opening a range: r is 0 or the refusal; `after` is what stands in the buffer that held `before`
-pub record BenchOpens (key file number : List ℕ) (first count : ℕ) (before : List ℕ) (r : ℕ) (after : List ℕ) : Type 0 where
-  pub refusal : r ≡ firstOf (openCases key file number first count (length before))
+pub record BenchOpens (key tagKey file number : List ℕ) (first count : ℕ) (before : List ℕ) (r : ℕ) (after : List ℕ) : Type 0 where
+  pub refusal : r ≡ firstOf (openCases key tagKey file number first count (length before))
   pub bytes : after
-      ≡ writtenFor (openOf key file number first count (length before)) (plainRange (scheduleOf key) file number first count) before
+      ≡ writtenFor (openOf key tagKey file number first count (length before)) (plainRange (scheduleOf key) file number first count) before

@@ -1,12 +1,12 @@
 // Calls that `libaria.a` does not export, for the bench of host/ and the tests alone: counter mode under a key, and checking an archive and
 // opening a job of it, with one number for the answer.
 use archive::Checked;
-use archive::Opened;
 use expansion::Outcome;
+use opening::Opened;
 ghost use mathlib.Core.Path.{_≡_};
 ghost use Rattle.refusals.specs.Cases.{firstOf};
-ghost use Rattle.archive.specs.Check.{checkCases};
-ghost use Rattle.archive.specs.Open.{jobSize, openedAs};
+ghost use Rattle.admission.specs.Check.{checkCases};
+ghost use Rattle.opening.specs.Open.{jobSize, openedAs};
 ghost use Rattle.benchlib.specs.Bench.{twelve, AppliedUnderKey};
 ghost use Rattle.benchlib.specs.Opening.{refusalIn, BenchOpens};
 
@@ -34,12 +34,12 @@ pub extern "C" fn bench_ctr(key: &[u8], prefix: &[u8], first: usize, run: &mut [
     ctr::apply(schedule, first_twelve(prefix), first, run)
 }
 
-// The whole check of key and file: 0, or the refusal.
+// The whole check of keys and file: 0, or the refusal.
 #[no_mangle]
-pub extern "C" fn bench_check(key: &[u8], file: &[u8]) -> u32
-    ensures { λ r. ⌜ r ≡ firstOf (checkCases (now (key .entry)) (now (file .entry))) ⌝ }
+pub extern "C" fn bench_check(key: &[u8], tag_key: &[u8], file: &[u8]) -> u32
+    ensures { λ r. ⌜ r ≡ firstOf (checkCases (now (key .entry)) (now («tag_key» .entry)) (now (file .entry))) ⌝ }
 {
-    let checked = archive::check(key, file);
+    let checked = archive::check(key, tag_key, file);
     match checked {
         Checked::Jobs(_) => 0,
         Checked::Refused(n) => n,
@@ -58,25 +58,32 @@ fn refusal_of(opened: Opened) -> u32
 
 // A whole job into the front of a buffer: 0, or the refusal.
 #[no_mangle]
-pub extern "C" fn bench_open(key: &[u8], file: &[u8], number: &[u8], out: &mut [u8]) -> u32
-    ensures { λ r. ⌜ BenchOpens (now (key .entry)) (now (file .entry)) (now (number .entry))
+pub extern "C" fn bench_open(
+    key: &[u8],
+    tag_key: &[u8],
+    file: &[u8],
+    number: &[u8],
+    out: &mut [u8],
+) -> u32
+    ensures { λ r. ⌜ BenchOpens (now (key .entry)) (now («tag_key» .entry)) (now (file .entry)) (now (number .entry))
         0 (jobSize (now (file .entry)) (now (number .entry))) (now (out .entry)) r (now (out .exit)) ⌝ }
 {
-    refusal_of(archive::open(key, file, number, out))
+    refusal_of(opening::open(key, tag_key, file, number, out))
 }
 
 // A range of a job into the front of a buffer: 0, or the refusal.
 #[no_mangle]
 pub extern "C" fn bench_open_range(
     key: &[u8],
+    tag_key: &[u8],
     file: &[u8],
     number: &[u8],
     first: usize,
     count: usize,
     out: &mut [u8],
 ) -> u32
-    ensures { λ r. ⌜ BenchOpens (now (key .entry)) (now (file .entry)) (now (number .entry)) first count
+    ensures { λ r. ⌜ BenchOpens (now (key .entry)) (now («tag_key» .entry)) (now (file .entry)) (now (number .entry)) first count
         (now (out .entry)) r (now (out .exit)) ⌝ }
 {
-    refusal_of(archive::open_range(key, file, number, first, count, out))
+    refusal_of(opening::open_range(key, tag_key, file, number, first, count, out))
 }

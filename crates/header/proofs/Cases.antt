@@ -13,17 +13,18 @@ abbrev pub notOfHeader : ℕ → Bool
 notOfHeader m =
     not (eqb 5 m)
     && (not (eqb 6 m)
-    && (not (eqb 7 m) && (not (eqb 8 m) && (not (eqb 9 m) && (not (eqb 10 m) && (not (eqb 11 m) && (not (eqb 12 m) && true)))))))
+    && (not (eqb 7 m)
+    && (not (eqb 24 m) && (not (eqb 8 m) && (not (eqb 9 m) && (not (eqb 10 m) && (not (eqb 11 m) && (not (eqb 12 m) && true))))))))
 
-pub front-positive : (file : List ℕ) → positive (frontCases file) ≡ true
+pub front-positive : (layout : ℕ) (file : List ℕ) → positive (frontCases layout file) ≡ true
 unfolding frontCases positive
-front-positive file = refl
+front-positive layout file = refl
 
-module _ (keysize : ℕ) (check file : List ℕ) where
-  pub header-positive : positive (headerCases keysize check file) ≡ true
+module _ (layout keysize : ℕ) (check file : List ℕ) where
+  pub header-positive : positive (headerCases layout keysize check file) ≡ true
   unfolding headerCases frontCases fieldCases positive
   header-positive = refl
 
-  pub header-lacks : (m : ℕ) → notOfHeader m ≡ true → lacks m (headerCases keysize check file) ≡ true
+  pub header-lacks : (m : ℕ) → notOfHeader m ≡ true → lacks m (headerCases layout keysize check file) ≡ true
   unfolding headerCases frontCases fieldCases lacks
   header-lacks m e = e

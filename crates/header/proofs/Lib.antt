@@ -1,2 +1,3 @@
+pub mod Layouts
 pub mod Cases
 pub mod Accepted

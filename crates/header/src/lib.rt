@@ -1,13 +1,13 @@
-// The header of an archive: its fields, its checks, and the directory behind it. Every call is total.
+// The header of an archive: its fields, its checks, and where directory, bodies and tag lie by it. Every call is total.
 use octets::byte_at;
 use octets::part;
 use octets::same;
 use octets::u16_at;
 use octets::u32_at;
 ghost use mathlib.Core.Path.{_≡_};
-ghost use Prim.Native.Nat.{_<_};
+ghost use Prim.Native.Nat.{_+_, _<_, _≤_};
 ghost use Rattle.refusals.specs.Cases.{firstOf};
-ghost use Rattle.header.specs.Fields.{countOf, NumberPart, directoryEnd, DirectoryPart};
+ghost use Rattle.header.specs.Fields.{layoutOf, isLayout, tagSize, countOf, NumberPart, directoryEnd, DirectoryPart, bodiesEnd};
 ghost use Rattle.header.specs.Cases.{frontCases, fieldCases, headerCases};
 
 // The count of jobs.
@@ -38,9 +38,40 @@ pub fn directory(file: &[u8]) -> &[u8]
     part(file, 20, 16 * count(file))
 }
 
-// The refusal of the file's length or the layout, or 0.
-fn front_refusal(file: &[u8]) -> u32
-    ensures { λ r. ⌜ r ≡ firstOf (frontCases (now (file .entry))) ⌝ }
+// How many bytes the tag has, by the layout.
+fn tag_size(file: &[u8]) -> usize
+    ensures { λ r. ⌜ (r ≡ tagSize (layoutOf (now (file .entry)))) × (r ≤ 16) ⌝ }
+{
+    if byte_at(file, 0) == 2 {
+        return 16;
+    }
+    0
+}
+
+// Where the bodies have to end: at the tag, or at the file's end where there is none.
+pub fn bodies_end(file: &[u8]) -> usize
+    ensures { λ r. ⌜ r ≡ bodiesEnd (now (file .entry)) ⌝ }
+{
+    let len = file.len();
+    let size = tag_size(file);
+    if len < size {
+        return 0;
+    }
+    len - size
+}
+
+fn is_layout(n: usize) -> bool
+    ensures { λ r. ⌜ r ≡ isLayout n ⌝ }
+{
+    if n == 1 {
+        return true;
+    }
+    n == 2
+}
+
+// The refusal of the file's length or its layout, which has to be `layout`, or 0.
+fn front_refusal(layout: usize, file: &[u8]) -> u32
+    ensures { λ r. ⌜ r ≡ firstOf (frontCases layout (now (file .entry))) ⌝ }
 {
     let len = file.len();
     if len < 20 {
@@ -49,10 +80,21 @@ fn front_refusal(file: &[u8]) -> u32
     if 65536 < len {
         return 6;
     }
-    if byte_at(file, 0) != 1 {
+    let stated = byte_at(file, 0);
+    if !is_layout(stated) {
         return 7;
     }
+    if stated != layout {
+        return 24;
+    }
     0
+}
+
+// How long a file of this layout and count is at least: header, directory and tag.
+fn least_length(file: &[u8]) -> usize
+    ensures { λ r. ⌜ r ≡ directoryEnd (now (file .entry)) + tagSize (layoutOf (now (file .entry))) ⌝ }
+{
+    20 + 16 * count(file) + tag_size(file)
 }
 
 // The refusal of the other fields, or 0.
@@ -69,7 +111,7 @@ fn field_refusal(keysize: usize, check: [u8; 8], file: &[u8]) -> u32
     if u32_at(file, 16) != len {
         return 10;
     }
-    if len < directory_end(file) {
+    if len < least_length(file) {
         return 11;
     }
     if !same(part(file, 8, 8), &check) {
@@ -78,11 +120,11 @@ fn field_refusal(keysize: usize, check: [u8; 8], file: &[u8]) -> u32
     0
 }
 
-// The refusal of the header under a key of `keysize` bytes whose key check is `check`, or 0.
-pub fn refusal(keysize: usize, check: [u8; 8], file: &[u8]) -> u32
-    ensures { λ r. ⌜ r ≡ firstOf (headerCases keysize check (now (file .entry))) ⌝ }
+// The refusal of the header in a file of `layout` under a key of `keysize` bytes whose key check is `check`, or 0.
+pub fn refusal(layout: usize, keysize: usize, check: [u8; 8], file: &[u8]) -> u32
+    ensures { λ r. ⌜ r ≡ firstOf (headerCases layout keysize check (now (file .entry))) ⌝ }
 {
-    let n = front_refusal(file);
+    let n = front_refusal(layout, file);
     if n != 0 {
         return n;
     }

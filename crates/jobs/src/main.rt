@@ -1,13 +1,14 @@
-// Prints the jobs of the archive on standard input, under the key in key.bin. Standard output has the listing or the line of a refusal, and
-// else nothing: what goes wrong outside the archive is said on standard error.
+// Prints the jobs of the archive on standard input, under the key in key.bin and the tag key in tag.bin. Standard output has the listing or
+// the line of a refusal, and else nothing: what goes wrong outside the archive is said on standard error.
 use libc::STDERR_FILENO;
 use libc::STDIN_FILENO;
 use libc::STDOUT_FILENO;
 
 fn print_usage() {
+    io::write_all(STDERR_FILENO, b"usage: jobs < ARCHIVE\n");
     io::write_all(
         STDERR_FILENO,
-        b"usage: jobs < ARCHIVE\nlists the archive's jobs, under the key in key.bin of this folder\n",
+        b"lists the archive's jobs, under the key in key.bin of this folder and the tag key in tag.bin, if there is one\n",
     );
 }
 
@@ -21,8 +22,8 @@ fn hint() {
     }
 }
 
-fn write_listing(key: &[u8], file: &[u8]) {
-    let listing = listing::list(key, file);
+fn write_listing(key: &[u8], tag_key: &[u8], file: &[u8]) {
+    let listing = listing::list(key, tag_key, file);
     let text = listing.text;
     let length = listing.length;
     if !io::write_all(STDOUT_FILENO, &text[..length]) {
@@ -32,9 +33,11 @@ fn write_listing(key: &[u8], file: &[u8]) {
 
 fn main() {
     hint();
-    // one byte more than the longest key
+    // one byte more than the longest key, so that a file which is longer, or cannot be read, is no key
     let mut key = [0u8; 33];
     let k = inputs::named_file(b"key.bin", &mut key);
+    let mut tag_key = [0u8; 33];
+    let t = inputs::named_file(b"tag.bin", &mut tag_key);
     // one byte more than the longest archive
     let mut file = [0u8; 65537];
     let input = inputs::standard_input(&mut file);
@@ -43,5 +46,5 @@ fn main() {
         return;
     }
     let n = input.length;
-    write_listing(&key[..k], &file[..n]);
+    write_listing(&key[..k], &tag_key[..t], &file[..n]);
 }

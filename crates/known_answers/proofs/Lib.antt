@@ -1,4 +1,5 @@
 pub mod Readings
 pub mod Vectors
 pub mod Sample
+pub mod Tagged
 pub mod Tags

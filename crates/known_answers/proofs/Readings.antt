@@ -13,7 +13,7 @@ use Rattle.keyed.specs.KeyRun.{keyRunCases}
 use Rattle.ctr.specs.Counter.{counterBlock}
 use Rattle.header.specs.Fields.{archiveNumber}
 use Rattle.jobnumber.specs.Number.{centuryOf, serialOf, orderOf}
-use Rattle.archive.specs.Open.{prefixOf}
+use Rattle.opening.specs.Open.{prefixOf}
 use Rattle.known_answers.specs.Readings.{every, among, blockWith, archive7, job24000017, readings, boxReadings}
 use Rattle.known_answers.specs.Readings.{diffusionReadings, equalBytesReadings, rotationReadings, counterReadings, runReadings}
 use Rattle.known_answers.specs.Readings.{keyRunReadings, keyReadings, job97000004, job05000001, orderReadings}

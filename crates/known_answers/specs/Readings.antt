@@ -19,7 +19,7 @@ use Rattle.keyed.specs.KeyRun.{keyRunNumber}
 use Rattle.ctr.specs.Counter.{counterBlock}
 use Rattle.header.specs.Fields.{archiveNumber}
 use Rattle.jobnumber.specs.Number.{orderOf}
-use Rattle.archive.specs.Open.{prefixOf}
+use Rattle.opening.specs.Open.{prefixOf}
 
 -- every test of a list passes
 unfoldable pub every : List Bool → Bool

@@ -9,7 +9,7 @@ use lib.ListN.{take}
 use Rattle.refusals.specs.Answers.{Answer, refused, gives}
 use Rattle.octets.specs.Equality.{sameBytes}
 use Rattle.expansion.specs.KeySchedule.{scheduleOf}
-use Rattle.archive.specs.Open.{plainOf, plainRange, openOf}
+use Rattle.opening.specs.Open.{plainOf, plainRange, openOf}
 use Rattle.listing.specs.Listing.{listingText}
 use Rattle.known_answers.specs.Readings.{job24000017}
 use Rattle.known_answers.specs.Vectors.{rfcKey}
@@ -49,16 +49,16 @@ refusedBy n (refused m) = eqb m n
 -- sum of 2^64; of job 24000019, which is not there, and of seven digits, past every end
 unfoldable pub sampleReadings : List Bool
 sampleReadings =
-    sameBytes (listingText (rfcKey 16) sampleFile) sampleText
+    sameBytes (listingText (rfcKey 16) [] sampleFile) sampleText
     ∷ sameBytes (plainOf (scheduleOf (rfcKey 16)) sampleFile job24000017) samplePlain
     ∷ sameBytes (plainRange (scheduleOf (rfcKey 16)) sampleFile job24000017 1 3) (0x72 ∷ 0x69 ∷ 0x65 ∷ [])
-    ∷ gave 0 (openOf (rfcKey 16) sampleFile job24000017 5 0 0)
-    ∷ gave 3 (openOf (rfcKey 16) sampleFile job24000017 1 3 3)
-    ∷ refusedBy 26 (openOf (rfcKey 16) sampleFile job24000017 5 1 8)
-    ∷ refusedBy 20 (openOf (rfcKey 16) sampleFile job24000017 1 3 2)
-    ∷ refusedBy 26 (openOf (rfcKey 16) sampleFile job24000017 1 5 2)
-    ∷ refusedBy 26 (openOf (rfcKey 16) sampleFile job24000017 6 0 0)
-    ∷ refusedBy 26 (openOf (rfcKey 16) sampleFile job24000017 18446744073709551615 1 8)
-    ∷ refusedBy 19 (openOf (rfcKey 16) sampleFile (take 7 job24000017 ++ (0x39 ∷ [])) 9 9 0)
-    ∷ refusedBy 18 (openOf (rfcKey 16) sampleFile (take 7 job24000017) 9 9 0)
+    ∷ gave 0 (openOf (rfcKey 16) [] sampleFile job24000017 5 0 0)
+    ∷ gave 3 (openOf (rfcKey 16) [] sampleFile job24000017 1 3 3)
+    ∷ refusedBy 26 (openOf (rfcKey 16) [] sampleFile job24000017 5 1 8)
+    ∷ refusedBy 20 (openOf (rfcKey 16) [] sampleFile job24000017 1 3 2)
+    ∷ refusedBy 26 (openOf (rfcKey 16) [] sampleFile job24000017 1 5 2)
+    ∷ refusedBy 26 (openOf (rfcKey 16) [] sampleFile job24000017 6 0 0)
+    ∷ refusedBy 26 (openOf (rfcKey 16) [] sampleFile job24000017 18446744073709551615 1 8)
+    ∷ refusedBy 19 (openOf (rfcKey 16) [] sampleFile (take 7 job24000017 ++ (0x39 ∷ [])) 9 9 0)
+    ∷ refusedBy 18 (openOf (rfcKey 16) [] sampleFile (take 7 job24000017) 9 9 0)
     ∷ []

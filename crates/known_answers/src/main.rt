@@ -1,18 +1,20 @@
 // Runs the readings of 01, Plate readings, that are not marked P: files on both sides of the limits of checking, under a good key, each
-// good but for what its line names. Prints what checking answered. Then makes each other call of `archive` on the sample archive, for jobs
-// that are there and for one that is not, and opens once more into a buffer that is a byte short; and opens ranges, on both sides of the
-// job's end and of the buffer's. Then searches bare directories, also such as no archive has. Then runs the block of RFC 5794, A.1, by each
-// engine as `roundtrip::run_by` picks it. Then tags the front of the sample archive, and compares tags, under the key and under schedules.
+// good but for what its line names. Prints what checking answered. Then makes each other call of `archive` and `opening` on the sample
+// archive, for jobs that are there and for one that is not, and opens once more into a buffer that is a byte short; and opens ranges, on
+// both sides of the job's end and of the buffer's. Then checks the tagged sample and the other under tag keys that fit and that do not, and
+// makes the same calls on the tagged one. Then searches bare directories, also such as no archive has. Then runs the block of RFC 5794,
+// A.1, by each engine as `roundtrip::run_by` picks it. Then tags the front of the sample archive, and compares tags, under the key and
+// under schedules.
 // tests/known_answers/make_expected.py makes the stored output from the model of the archive and from libcrypto. The readings marked P are
 // the one theorem of proofs/Readings.
 use archive::Checked;
-use archive::Opened;
 use circuit::Schedule;
 use cmac::Tagged;
 use cmac::Verdict;
 use directory::Found;
 use expansion::Outcome;
 use libc::STDOUT_FILENO;
+use opening::Opened;
 use roundtrip::Engine;
 
 // The key of RFC 5794, A.1.
@@ -122,9 +124,9 @@ fn archived(jobs: u8) -> [u8; 65537] {
 }
 
 // A line: the case, and what checking answers.
-fn print_check(case: &[u8], file: &[u8]) {
+fn print_check(case: &[u8], tag_key: &[u8], file: &[u8]) {
     let key = KEY;
-    let checked = archive::check(&key, file);
+    let checked = archive::check(&key, tag_key, file);
     print(case);
     match checked {
         Checked::Jobs(n) => print_number(b"jobs ", n as u64),
@@ -135,27 +137,27 @@ fn print_check(case: &[u8], file: &[u8]) {
 
 fn short_file() {
     let file = headed(1, 0, 19);
-    print_check(b"19 bytes: ", &file[0..19]);
+    print_check(b"19 bytes: ", b"", &file[0..19]);
 }
 
 fn layout_2() {
     let file = headed(2, 0, 20);
-    print_check(b"20 bytes with layout 2: ", &file[0..20]);
+    print_check(b"20 bytes with layout 2: ", b"", &file[0..20]);
 }
 
 fn long_file() {
     let file = headed(1, 0, 65537);
-    print_check(b"65537 bytes: ", &file);
+    print_check(b"65537 bytes: ", b"", &file);
 }
 
 fn count_64() {
     let file = archived(64);
-    print_check(b"count 64: ", &file[0..1044]);
+    print_check(b"count 64: ", b"", &file[0..1044]);
 }
 
 fn count_65() {
     let file = archived(65);
-    print_check(b"count 65: ", &file[0..1060]);
+    print_check(b"count 65: ", b"", &file[0..1060]);
 }
 
 // The archive that docs/FORMAT.md works byte by byte, examples/sample/archive.bin: two jobs, of `dried` and of no bytes.
@@ -181,17 +183,17 @@ fn print_place(found: Found) {
     print(b"\n");
 }
 
-fn print_found(key: &[u8], file: &[u8], number: &[u8]) {
+fn print_found(key: &[u8], tag_key: &[u8], file: &[u8], number: &[u8]) {
     print(b"find ");
     print(number);
-    print_place(archive::find(key, file, number));
+    print_place(archive::find(key, tag_key, file, number));
 }
 
-fn print_body(key: &[u8], file: &[u8], number: &[u8]) {
+fn print_body(key: &[u8], tag_key: &[u8], file: &[u8], number: &[u8]) {
     print(b"body of ");
     print(number);
     print(b": '");
-    print_hex(archive::body(key, file, number));
+    print_hex(archive::body(key, tag_key, file, number));
     print(b"'\n");
 }
 
@@ -204,15 +206,16 @@ fn print_answer(opened: Opened, buffer: &[u8]) {
     print_line(b", buffer ", buffer);
 }
 
-fn print_opened(key: &[u8], file: &[u8], number: &[u8], buffer: &mut [u8]) {
+fn print_opened(key: &[u8], tag_key: &[u8], file: &[u8], number: &[u8], buffer: &mut [u8]) {
     print(b"open ");
     print(number);
     print_number(b" in ", buffer.len() as u64);
-    print_answer(archive::open(key, file, number, buffer), buffer);
+    print_answer(opening::open(key, tag_key, file, number, buffer), buffer);
 }
 
 fn print_range(
     key: &[u8],
+    tag_key: &[u8],
     file: &[u8],
     number: &[u8],
     first: usize,
@@ -225,50 +228,147 @@ fn print_range(
     print_number(b", count ", count as u64);
     print_number(b", in ", buffer.len() as u64);
     print_answer(
-        archive::open_range(key, file, number, first, count, buffer),
+        opening::open_range(key, tag_key, file, number, first, count, buffer),
         buffer,
     );
 }
 
 // A job that is not there, and the one of five bytes. A buffer keeps what it had where the job is not there, past the plain bytes, and
 // where it is too short.
-fn open_jobs(key: &[u8], file: &[u8]) {
+fn open_jobs(key: &[u8], tag_key: &[u8], file: &[u8]) {
     let mut room = [b'.'; 8];
-    print_opened(key, file, b"24000019", &mut room);
-    print_opened(key, file, b"24000017", &mut room);
+    print_opened(key, tag_key, file, b"24000019", &mut room);
+    print_opened(key, tag_key, file, b"24000017", &mut room);
     let mut short = [b'.'; 4];
-    print_opened(key, file, b"24000017", &mut short);
+    print_opened(key, tag_key, file, b"24000017", &mut short);
 }
 
 // Ranges of the job of five bytes: within it, to its very end, past it, by sums of 2^64 too; and of a job that is not there.
-fn open_ranges(key: &[u8], file: &[u8]) {
+fn open_ranges(key: &[u8], tag_key: &[u8], file: &[u8]) {
     let mut room = [b'.'; 8];
-    print_range(key, file, b"24000017", 5, 1, &mut room);
-    print_range(key, file, b"24000017", 18446744073709551615, 1, &mut room);
-    print_range(key, file, b"24000017", 1, 18446744073709551615, &mut room);
-    print_range(key, file, b"24000019", 9, 9, &mut room);
-    print_range(key, file, b"24000017", 1, 3, &mut room);
-    print_range(key, file, b"24000017", 5, 0, &mut room);
+    print_range(key, tag_key, file, b"24000017", 5, 1, &mut room);
+    print_range(
+        key,
+        tag_key,
+        file,
+        b"24000017",
+        18446744073709551615,
+        1,
+        &mut room,
+    );
+    print_range(
+        key,
+        tag_key,
+        file,
+        b"24000017",
+        1,
+        18446744073709551615,
+        &mut room,
+    );
+    print_range(key, tag_key, file, b"24000019", 9, 9, &mut room);
+    print_range(key, tag_key, file, b"24000017", 1, 3, &mut room);
+    print_range(key, tag_key, file, b"24000017", 5, 0, &mut room);
 }
 
 // A buffer that has room for less than the range: it keeps what it had. A range that passes the job's end is told first.
-fn open_ranges_short(key: &[u8], file: &[u8]) {
+fn open_ranges_short(key: &[u8], tag_key: &[u8], file: &[u8]) {
     let mut short = [b'.'; 2];
-    print_range(key, file, b"24000017", 1, 3, &mut short);
-    print_range(key, file, b"24000017", 1, 5, &mut short);
-    print_range(key, file, b"24000017", 3, 2, &mut short);
+    print_range(key, tag_key, file, b"24000017", 1, 3, &mut short);
+    print_range(key, tag_key, file, b"24000017", 1, 5, &mut short);
+    print_range(key, tag_key, file, b"24000017", 3, 2, &mut short);
 }
 
-// Each call on the sample, for jobs that are there, the index of the second not being 0, and for one that is not.
-fn sample_calls(key: &[u8], file: &[u8]) {
-    print_found(key, file, b"24000018");
-    print_found(key, file, b"24000019");
-    print_line(b"directory: ", archive::directory(key, file));
-    print_body(key, file, b"24000017");
-    print_body(key, file, b"24000019");
-    open_jobs(key, file);
-    open_ranges(key, file);
-    open_ranges_short(key, file);
+// Each call on a sample, for jobs that are there, the index of the second not being 0, and for one that is not.
+fn sample_calls(key: &[u8], tag_key: &[u8], file: &[u8]) {
+    print_found(key, tag_key, file, b"24000018");
+    print_found(key, tag_key, file, b"24000019");
+    print_line(b"directory: ", archive::directory(key, tag_key, file));
+    print_body(key, tag_key, file, b"24000017");
+    print_body(key, tag_key, file, b"24000019");
+    open_jobs(key, tag_key, file);
+    open_ranges(key, tag_key, file);
+    open_ranges_short(key, tag_key, file);
+}
+
+// The archive of layout 2 that docs/FORMAT.md works byte by byte, examples/tagged/archive.bin: the same jobs, and the tag.
+fn tagged_file() -> [u8; 73] {
+    let untagged = sample_file();
+    let mut file = [0u8; 73];
+    octets::put(&mut file, 0, &untagged);
+    octets::put(&mut file, 0, b"\x02");
+    octets::put(&mut file, 19, b"\x49");
+    octets::put(
+        &mut file,
+        57,
+        b"\x1b\xe9\xd3\x98\xb9\xc7\x66\x3e\x4e\xc3\x45\x11\xc4\x34\xe3\x87",
+    );
+    file
+}
+
+// Its tag key, and a byte more.
+fn tag_bytes() -> [u8; 33] {
+    let mut bytes = [0u8; 33];
+    octets::put(
+        &mut bytes,
+        0,
+        b"\x10\x11\x12\x13\x14\x15\x16\x17\x18\x19\x1a\x1b\x1c\x1d\x1e\x1f",
+    );
+    octets::put(
+        &mut bytes,
+        16,
+        b"\x20\x21\x22\x23\x24\x25\x26\x27\x28\x29\x2a\x2b\x2c\x2d\x2e\x2f\x30",
+    );
+    bytes
+}
+
+// The tagged sample under no tag key, under ones that are none, under another and under its own; with its last bit changed, and a bit of a
+// body; and the other sample under a tag key.
+fn tag_keys(key: &[u8], tag_key: &[u8], file: &[u8], untagged: &[u8]) {
+    print_check(b"tagged, no tag key: ", b"", file);
+    print_check(b"tagged, 33 bytes of tag key: ", tag_key, file);
+    print_check(
+        b"tagged, 31 bytes of tag key: ",
+        octets::part(tag_key, 0, 31),
+        file,
+    );
+    print_check(b"tagged, under the key: ", key, file);
+    print_check(b"tagged: ", octets::part(tag_key, 0, 32), file);
+    print_check(
+        b"layout 1 under a tag key: ",
+        octets::part(tag_key, 0, 32),
+        untagged,
+    );
+}
+
+// The tagged sample with a bit of a byte changed.
+fn bit_changed(at: usize) -> [u8; 73] {
+    let mut file = tagged_file();
+    let byte = [octets::byte_at(&file, at) as u8 ^ 1];
+    octets::put(&mut file, at, &byte);
+    file
+}
+
+fn tagged_changes(tag_key: &[u8]) {
+    let tag = bit_changed(72);
+    print_check(b"tagged, its last bit changed: ", tag_key, &tag);
+    let body = bit_changed(56);
+    print_check(b"tagged, a bit of the body changed: ", tag_key, &body);
+    let number = bit_changed(7);
+    print_check(
+        b"tagged, a bit of the archive number changed: ",
+        tag_key,
+        &number,
+    );
+}
+
+// The calls on the tagged sample.
+fn tagged_sample(key: &[u8], untagged: &[u8]) {
+    let file = tagged_file();
+    let bytes = tag_bytes();
+    tag_keys(key, &bytes, &file, untagged);
+    let tag_key = octets::part(&bytes, 0, 32);
+    tagged_changes(tag_key);
+    sample_calls(key, tag_key, &file);
 }
 
 // A line: the number, the bare directory, and what a search of it answers. Of an entry a search looks at the number only.
@@ -484,7 +584,8 @@ fn main() {
     count_65();
     let key = KEY;
     let file = sample_file();
-    sample_calls(&key, &file);
+    sample_calls(&key, b"", &file);
+    tagged_sample(&key, &file);
     search_absent();
     search_passed();
     search_unordered();

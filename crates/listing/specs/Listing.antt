@@ -9,9 +9,9 @@ use Rattle.archive.specs.Check.{checkOf}
 use Rattle.listing.specs.Text.{textOf}
 use Rattle.listing.specs.declared.Listing.{Listing}
 
--- the text that `jobs` prints for a key and a file
-abbrev pub listingText : List ℕ → List ℕ → List ℕ
-listingText key file = textOf (checkOf key file) (directoryOf file)
+-- the text that `jobs` prints for a key, a tag key and a file
+abbrev pub listingText : List ℕ → List ℕ → List ℕ → List ℕ
+listingText key tagKey file = textOf (checkOf key tagKey file) (directoryOf file)
 
 -- r holds the text s: its length, and the text at the front of the buffer with zeros behind it. The last two follow from these; they are
 -- what writing the front of the buffer asks

@@ -99,11 +99,11 @@ fn jobs(directory: &[u8]) -> Listing
     Listing { length, text }
 }
 
-// The text that `jobs` prints for a key and a file.
-pub fn list(key: &[u8], file: &[u8]) -> Listing
-    ensures { λ r. ⌜ Holds (listingText (now (key .entry)) (now (file .entry))) r ⌝ }
+// The text that `jobs` prints for a key, a tag key and a file.
+pub fn list(key: &[u8], tag_key: &[u8], file: &[u8]) -> Listing
+    ensures { λ r. ⌜ Holds (listingText (now (key .entry)) (now («tag_key» .entry)) (now (file .entry))) r ⌝ }
 {
-    let checked = archive::check(key, file);
+    let checked = archive::check(key, tag_key, file);
     match checked {
         Checked::Refused(n) => refusal(n),
         Checked::Jobs(_) => jobs(header::directory(file)),

@@ -1,12 +1,12 @@
 // Writes plain bytes of the job that its first word names, all of them or the range that two more words ask for, from the archive on
-// standard input, under the key in key.bin.
+// standard input, under the key in key.bin and the tag key in tag.bin.
 // A refusal goes to standard error, so that plain bytes can never be mistaken for one, and so does what goes wrong outside the archive.
-use archive::Opened;
 use decimal::Decimal;
 use libc::STDERR_FILENO;
 use libc::STDIN_FILENO;
 use libc::STDOUT_FILENO;
-ghost use Rattle.archive.specs.Open.{jobSize, openedAs, Opens};
+use opening::Opened;
+ghost use Rattle.opening.specs.Open.{jobSize, openedAs, Opens};
 ghost use Rattle.open.specs.Asked.{firstIn, countIn};
 
 // What is asked for of a job.
@@ -23,7 +23,7 @@ fn print_usage() {
     );
     io::write_all(
         STDERR_FILENO,
-        b"opens that job, eight digits, or COUNT bytes of it from byte FIRST on, counted from 0, under the key in key.bin of this folder\n",
+        b"opens that job, eight digits, or COUNT bytes of it from byte FIRST on, counted from 0, under key.bin and, if there, tag.bin\n",
     );
 }
 
@@ -42,32 +42,43 @@ fn write_plain(bytes: &[u8]) {
 }
 
 // Opens what is asked for of the job.
-fn open_asked(key: &[u8], file: &[u8], number: &[u8], asked: Asked, plain: &mut [u8]) -> Opened
-    ensures { λ r. ⌜ Opens (now (key .entry)) (now (file .entry)) (now (number .entry)) (firstIn asked)
+fn open_asked(
+    key: &[u8],
+    tag_key: &[u8],
+    file: &[u8],
+    number: &[u8],
+    asked: Asked,
+    plain: &mut [u8],
+) -> Opened
+    ensures { λ r. ⌜ Opens (now (key .entry)) (now («tag_key» .entry)) (now (file .entry)) (now (number .entry)) (firstIn asked)
         (countIn (jobSize (now (file .entry)) (now (number .entry))) asked) (now (plain .entry)) (openedAs r) (now (plain .exit)) ⌝ }
 {
     match asked {
-        Asked::Whole => archive::open(key, file, number, plain),
-        Asked::Range(first, count) => archive::open_range(key, file, number, first, count, plain),
+        Asked::Whole => opening::open(key, tag_key, file, number, plain),
+        Asked::Range(first, count) => {
+            opening::open_range(key, tag_key, file, number, first, count, plain)
+        }
     }
 }
 
 // Opens the job and writes what is asked for, or the refusal.
-fn write_job(key: &[u8], file: &[u8], number: &[u8], asked: Asked) {
+fn write_job(key: &[u8], tag_key: &[u8], file: &[u8], number: &[u8], asked: Asked) {
     // no body is longer than the longest archive
     let mut plain = [0u8; 65536];
-    let opened = open_asked(key, file, number, asked, &mut plain);
+    let opened = open_asked(key, tag_key, file, number, asked, &mut plain);
     match opened {
         Opened::Refused(n) => print_refusal(n),
         Opened::Bytes(n) => write_plain(&plain[..n]),
     }
 }
 
-// Reads the key and the archive, and opens the job.
+// Reads the keys and the archive, and opens the job.
 fn open_job(number: &[u8], asked: Asked) {
-    // one byte more than the longest key
+    // one byte more than the longest key, so that a file which is longer, or cannot be read, is no key
     let mut key = [0u8; 33];
     let k = inputs::named_file(b"key.bin", &mut key);
+    let mut tag_key = [0u8; 33];
+    let t = inputs::named_file(b"tag.bin", &mut tag_key);
     // one byte more than the longest archive
     let mut file = [0u8; 65537];
     let input = inputs::standard_input(&mut file);
@@ -76,7 +87,7 @@ fn open_job(number: &[u8], asked: Asked) {
         return;
     }
     let n = input.length;
-    write_job(&key[..k], &file[..n], number, asked);
+    write_job(&key[..k], &tag_key[..t], &file[..n], number, asked);
 }
 
 // Opens the job that the first word names.

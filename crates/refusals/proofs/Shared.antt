@@ -2,12 +2,13 @@
 -- Assumes nothing.
 use mathlib.Core.Path.{_≡_, refl, ap}
 use mathlib.Core.Bool.{Bool, true, false, not, _&&_, _||_}
+use mathlib.Core.List.{[], _∷_}
 use Prim.Native.Nat.{ℕ, _%_, _≤_, _<_}
 use native.Mathlib.Omega.{arith}
 use borrow.Author.Tests.{eqb-true, eq-eqb, ne-eqb, lt-ltb, le-ltb}
 use lib.Dec.{eqb}
-use Rattle.refusals.specs.Cases.{firstOf, positive, lacks}
-use Rattle.refusals.specs.Shared.{goodKey, keyCases, directionCases, goodRounds, roundsCases, wholeCases}
+use Rattle.refusals.specs.Cases.{when, firstOf, positive, lacks}
+use Rattle.refusals.specs.Shared.{goodKey, keyCases, tagKeyCases, directionCases, goodRounds, roundsCases, wholeCases}
 use Rattle.refusals.proofs.Cases.{one-applies, one-passes}
 
 -- ---- 1
@@ -42,6 +43,26 @@ key-bad n h = by-case (goodKey n) refl
     by-case : (a : Bool) → goodKey n ≡ a → goodKey n ≡ false
     by-case true p = absurd (h (key-0 n p))
     by-case false p = p
+
+-- ---- 1 of a tag key
+
+pub tag-key-positive : (n : ℕ) → positive (tagKeyCases n) ≡ true
+unfolding tagKeyCases positive
+tag-key-positive n = refl
+
+pub tag-key-lacks : (m n : ℕ) → (not (eqb 1 m) && true) ≡ true → lacks m (tagKeyCases n) ≡ true
+unfolding tagKeyCases lacks
+tag-key-lacks m n e = e
+
+-- none is good
+pub tag-key-none : (n : ℕ) → n ≡ 0 → firstOf (tagKeyCases n) ≡ 0
+unfolding tagKeyCases firstOf
+tag-key-none n e = rw e
+
+-- one that is there is judged as a key is
+pub tag-key-some : (n : ℕ) → (n ≡ 0 → ⊥) → firstOf (tagKeyCases n) ≡ firstOf (keyCases n)
+unfolding tagKeyCases keyCases
+tag-key-some n h = ap (λ t. firstOf (when (not (t || goodKey n)) 1 ∷ [])) (ne-eqb n 0 h)
 
 -- ---- 2
 

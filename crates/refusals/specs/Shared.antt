@@ -1,4 +1,5 @@
--- The cases that many calls share (01, Reasons for sending work back, 1 to 4), each over the number that it looks at.
+-- The cases that many calls share (01, Reasons for sending work back, 1 to 4, and 1 of a tag key by 02, d), each over the number that it
+-- looks at.
 -- Assumes nothing.
 use mathlib.Core.Bool.{Bool, not, _||_}
 use mathlib.Core.List.{List, [], _∷_}
@@ -13,6 +14,10 @@ goodKey n = eqb n 16 || (eqb n 24 || eqb n 32)
 -- 1: the key is not 16, 24 or 32 bytes long
 unfoldable pub keyCases : ℕ → List Case
 keyCases n = when (not (goodKey n)) 1 ∷ []
+
+-- 1 also for a bad tag key (02, d), which is "of any of the three lengths or 0 bytes for none"
+unfoldable pub tagKeyCases : ℕ → List Case
+tagKeyCases n = when (not (eqb n 0 || goodKey n)) 1 ∷ []
 
 -- 2: the direction is neither 0 nor 1
 unfoldable pub directionCases : ℕ → List Case

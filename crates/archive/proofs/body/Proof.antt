@@ -25,12 +25,12 @@ body-at-requires c κs = search needs
 returns : tie.Need-returns
 returns c =
     let found = c .before .before .before .find .ensures .answered in
-    body-refused _ _ _ _ _ (sym (ap foundAs (c .before .enum-told .given .1)) ∙ found) (c .part .ensures .bytes)
+    body-refused _ _ _ _ _ _ (sym (ap foundAs (c .before .enum-told .given .1)) ∙ found) (c .part .ensures .bytes)
 
 returns-2 : tie.Need-returns-2
 returns-2 c =
     let found = c .before .before .before .before .find .ensures .answered in
-    body-given _ _ _ _ _ (sym (ap foundAs (c .before .before .f .given .1)) ∙ found) (c .body-at .ensures)
+    body-given _ _ _ _ _ _ (sym (ap foundAs (c .before .before .f .given .1)) ∙ found) (c .body-at .ensures)
 
 pub body-spec : {M : Type 1} → statement M
 body-spec =

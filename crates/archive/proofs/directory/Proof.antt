@@ -3,7 +3,7 @@
 use mathlib.Core.Path.{sym, _∙_}
 use borrow.Author.Needs.{needs}
 use Rattle.refusals.proofs.Answers.{answer-none, answer-gives, refusal-is, part-refused, part-gives}
-use Rattle.archive.proofs.Accepted.{accepted-header}
+use Rattle.admission.proofs.Accepted.{accepted-header}
 use Rattle.archive.proofs.directory.Statement.{statement}
 use Rattle.archive.proofs.directory.Tie as tie
 
@@ -30,7 +30,7 @@ returns-2 c =
     let none = sym (c .before .before .admit .ensures .number) ∙ c .before .if1 .left in
     record {
       bytes = c .directory .ensures .bytes ∙ part-gives _ _ _ (sym (answer-none _ _ none));
-      place = λ n g. c .directory .ensures .place (accepted-header _ _ _ none .long);
+      place = λ n g. c .directory .ensures .place (accepted-header _ _ _ _ none .long);
     }
 
 pub directory-spec : {M : Type 1} → statement M

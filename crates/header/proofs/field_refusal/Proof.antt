@@ -46,7 +46,7 @@ unfolding fieldCases
 past4 c =
     past3 (c .before .before)
     ∙ skip (cases (c .before .before .before .before .before .before .before)) 3
-    (rw (← c .before .directory-end .ensures) (le-ltb _ _ (c .if4 .left)))
+    (rw (← c .before .least-length .ensures) (le-ltb _ _ (c .if4 .left)))
 
 abbrev matches : tie.After-byte-at → Bool
 matches b = let a = b .before .before .args in sameBytes (keyCheckOf (a .file .now)) (a .t2)
@@ -94,8 +94,8 @@ returns-3 c =
     ∙ stop (cases (c .before .before .before .before .before)) 2
     (ap not (ne-eqb _ _ (λ q. c .if3 .taken (c .before .u32-at .ensures .0 ∙ q)))))
 
-directory-end-requires : tie.Need-directory-end-requires
-directory-end-requires c κs = search needs
+least-length-requires : tie.Need-least-length-requires
+least-length-requires c κs = search needs
 
 returns-4 : tie.Need-returns-4
 unfolding fieldCases
@@ -103,7 +103,7 @@ returns-4 c =
     sym
     (past3 (c .before .before)
     ∙ stop (cases (c .before .before .before .before .before .before .before)) 3
-    (rw (← c .before .directory-end .ensures) (lt-ltb _ _ (c .if4 .taken))))
+    (rw (← c .before .least-length .ensures) (lt-ltb _ _ (c .if4 .taken))))
 
 part-requires : tie.Need-part-requires
 part-requires c κs = search needs
@@ -136,7 +136,7 @@ field-refusal-spec =
     returns-2
     u32-at-requires
     returns-3
-    directory-end-requires
+    least-length-requires
     returns-4
     part-requires
     slice-aggregate-same

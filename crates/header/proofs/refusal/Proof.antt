@@ -24,7 +24,7 @@ returns-2 : tie.Need-returns-2
 unfolding headerCases
 returns-2 c =
     let none = sym (c .before .before .front-refusal .ensures) ∙ c .before .if1 .left in
-    c .field-refusal .ensures ∙ sym (first-pass _ _ (front-positive _) none)
+    c .field-refusal .ensures ∙ sym (first-pass _ _ (front-positive _ _) none)
 
 pub refusal-spec : {M : Type 1} → statement M
 refusal-spec = tie.close (tie.spec front-refusal-requires returns field-refusal-requires returns-2)

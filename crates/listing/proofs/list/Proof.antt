@@ -27,17 +27,17 @@ directory-requires c κs = search needs
 jobs-requires : tie.Need-jobs-requires
 jobs-requires c κs =
     let told = sym (ap checkedAs (c .before .enum-told .given .1)) ∙ c .before .before .before .check .ensures in
-    given-printable _ _ _ told _ (c .directory .ensures .bytes)
+    given-printable _ _ _ _ told _ (c .directory .ensures .bytes)
 
 returns : tie.Need-returns
 returns c =
     let told = sym (ap checkedAs (c .before .before .checked .given .1)) ∙ c .before .before .before .before .check .ensures in
-    held-as (refused-text _ _ _ told) (c .refusal .ensures)
+    held-as (refused-text _ _ _ _ told) (c .refusal .ensures)
 
 returns-2 : tie.Need-returns-2
 returns-2 c =
     let told = sym (ap checkedAs (c .before .before .enum-told .given .1)) ∙ c .before .before .before .before .check .ensures in
-    held-as (given-text _ _ _ told _ (c .before .directory .ensures .bytes)) (c .jobs .ensures)
+    held-as (given-text _ _ _ _ told _ (c .before .directory .ensures .bytes)) (c .jobs .ensures)
 
 pub list-spec : {M : Type 1} → statement M
 list-spec =

@@ -3,8 +3,8 @@
 use mathlib.Core.Path.{sym, ap}
 use lib.Seq.{length-take-le}
 use borrow.Author.Needs.{needs}
-use Rattle.archive.specs.Open.{openedAs}
-use Rattle.archive.proofs.Opening.{opens-fits}
+use Rattle.opening.specs.Open.{openedAs}
+use Rattle.opening.proofs.Opening.{opens-fits}
 use Rattle.open.proofs.write_job.Statement.{statement}
 use Rattle.open.proofs.write_job.Tie as tie
 
@@ -26,12 +26,12 @@ enum-known-opened-2 c = search needs
 array-share-prefix-plain : tie.Need-array-share-prefix-plain
 array-share-prefix-plain c =
     let o = c .before .before .before .before .open-asked .ensures in
-    opens-fits _ _ _ _ _ _ _ _ o _ (ap openedAs (c .before .opened2 .given .1))
+    opens-fits _ _ _ _ _ _ _ _ _ o _ (ap openedAs (c .before .opened2 .given .1))
 
 slice-aggregate-write-plain : tie.Need-slice-aggregate-write-plain
 slice-aggregate-write-plain c =
     let o = c .before .before .before .before .before .open-asked .ensures in
-    sym (length-take-le _ _ (opens-fits _ _ _ _ _ _ _ _ o _ (ap openedAs (c .before .before .opened2 .given .1))))
+    sym (length-take-le _ _ (opens-fits _ _ _ _ _ _ _ _ _ o _ (ap openedAs (c .before .before .opened2 .given .1))))
 
 write-plain-requires : tie.Need-write-plain-requires
 write-plain-requires c κs = search needs

@@ -1,0 +1,4 @@
+pub mod Checking
+pub mod Tags
+pub mod Accepted
+pub mod Layout1

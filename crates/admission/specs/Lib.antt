@@ -1,0 +1,3 @@
+pub mod Check
+pub mod Internal
+pub mod Layout1

@@ -1,0 +1,97 @@
+// Admission: the whole check of an archive under a key and a tag key, with which every call on an archive begins. Each key is prepared
+// once.
+use circuit::Schedule;
+use expansion::Outcome;
+use octets::part;
+ghost use mathlib.Core.Path.{_≡_};
+ghost use mathlib.Core.Bool.{true};
+ghost use Prim.Native.Nat.{_≤_};
+ghost use lib.ListN.{length};
+ghost use Rattle.refusals.specs.Cases.{firstOf};
+ghost use Rattle.refusals.specs.Shared.{goodRounds};
+ghost use Rattle.header.specs.Fields.{layoutOf};
+ghost use Rattle.admission.specs.Check.{keyCheck, fileCases, taggedCases, Admits};
+ghost use Rattle.admission.specs.Internal.{tagCasesUnder};
+
+// What the whole check comes to: a refusal's number or 0, and the schedule of the key.
+pub struct Admitted {
+    pub number: u32,
+    pub schedule: Schedule,
+}
+
+// The key check of a schedule.
+fn key_check(schedule: Schedule) -> [u8; 8]
+    requires { ⌜ goodRounds (schedule .rounds) ≡ true ⌝ }
+    ensures { λ r. ⌜ r ≡ keyCheck schedule ⌝ }
+{
+    let mut block = [255u8; 16];
+    tables::run(schedule, &mut block);
+    let mut check = [0u8; 8];
+    octets::copy(&block, &mut check);
+    check
+}
+
+// The refusal of a file that has to be of a layout, but for its tag, or 0.
+fn file_refusal(layout: usize, schedule: Schedule, keysize: usize, file: &[u8]) -> u32
+    requires { ⌜ goodRounds (schedule .rounds) ≡ true ⌝ }
+    ensures { λ r. ⌜ r ≡ firstOf (fileCases layout schedule keysize (now (file .entry))) ⌝ }
+{
+    let n = header::refusal(layout, keysize, key_check(schedule), file);
+    if n != 0 {
+        return n;
+    }
+    directory::refusal(
+        header::directory(file),
+        header::directory_end(file),
+        header::bodies_end(file),
+    )
+}
+
+// The refusal of the tag of a file that has room for one, under the tag key's schedule, or 0.
+fn tag_refusal(schedule: Schedule, file: &[u8]) -> u32
+    requires { ⌜ (goodRounds (schedule .rounds) ≡ true) × (layoutOf (now file) ≡ 2) × (16 ≤ length (now file)) ⌝ }
+    ensures { λ r. ⌜ r ≡ firstOf (tagCasesUnder schedule (now (file .entry))) ⌝ }
+{
+    let end = header::bodies_end(file);
+    let verdict = cmac::verify_under(schedule, part(file, 0, end), part(file, end, 16));
+    cmac::number_of(verdict)
+}
+
+// The refusal of the tag key or of the file, or 0. No tag key is none: it is not prepared, and the file has to be of layout 1.
+fn refusal(schedule: Schedule, keysize: usize, tag_key: &[u8], file: &[u8]) -> u32
+    requires { ⌜ goodRounds (schedule .rounds) ≡ true ⌝ }
+    ensures { λ r. ⌜ r ≡ firstOf (taggedCases schedule keysize (now («tag_key» .entry)) (now (file .entry))) ⌝ }
+{
+    if tag_key.len() == 0 {
+        return file_refusal(1, schedule, keysize, file);
+    }
+    let prepared = preparation::prepare(tag_key);
+    let tag_outcome = prepared.outcome;
+    let Outcome::Ready = tag_outcome else {
+        return expansion::number_of(tag_outcome);
+    };
+    let n = file_refusal(2, schedule, keysize, file);
+    if n != 0 {
+        return n;
+    }
+    tag_refusal(prepared.schedule, file)
+}
+
+// The whole check: the key, then the tag key and the file.
+pub fn admit(key: &[u8], tag_key: &[u8], file: &[u8]) -> Admitted
+    ensures { λ r. ⌜ Admits (now (key .entry)) (now («tag_key» .entry)) (now (file .entry)) r ⌝ }
+{
+    let p = preparation::prepare(key);
+    let outcome = p.outcome;
+    let schedule = p.schedule;
+    let Outcome::Ready = outcome else {
+        return Admitted {
+            number: expansion::number_of(outcome),
+            schedule,
+        };
+    };
+    Admitted {
+        number: refusal(schedule, key.len(), tag_key, file),
+        schedule,
+    }
+}
