@@ -1,5 +1,5 @@
-//! Speed of both engines, of CMAC and of libcrypto's ARIA, side by side, and of opening a job:
-//! `cargo bench`.
+//! Speed of both engines, of CMAC and of libcrypto's ARIA, side by side, and of checking an archive
+//! and opening a job, with and without a tag: `cargo bench`.
 //!
 //! Block runs and CMAC are those of the package. Counter mode and the archive are not among its
 //! calls, so they come from a library for the bench and the tests alone, which
@@ -24,6 +24,7 @@ const BYTES_PER_MEASUREMENT: usize = 1 << 20;
 /// Shorter runs count as this many bytes: most of their time goes into the key.
 const BYTES_AT_LEAST: usize = 256;
 const KEY: [u8; 16] = *b"sixteen key byte";
+const TAG_KEY: [u8; 16] = *b"a key for tags!!";
 const PREFIX: [u8; 12] = *b"twelve bytes";
 
 /// build.rs sets it where the library is there.
@@ -45,13 +46,22 @@ extern "C" {
         run_len: usize,
     ) -> u32;
 
-    /// The whole check of key and file: 0, or the refusal.
-    fn bench_check(key: *const u8, key_len: usize, file: *const u8, file_len: usize) -> u32;
+    /// The whole check of keys and file: 0, or the refusal. Here and below a tag key of no bytes is none.
+    fn bench_check(
+        key: *const u8,
+        key_len: usize,
+        tag_key: *const u8,
+        tag_key_len: usize,
+        file: *const u8,
+        file_len: usize,
+    ) -> u32;
 
     /// A whole job into the front of a buffer: 0, or the refusal.
     fn bench_open(
         key: *const u8,
         key_len: usize,
+        tag_key: *const u8,
+        tag_key_len: usize,
         file: *const u8,
         file_len: usize,
         number: *const u8,
@@ -64,6 +74,8 @@ extern "C" {
     fn bench_open_range(
         key: *const u8,
         key_len: usize,
+        tag_key: *const u8,
+        tag_key_len: usize,
         file: *const u8,
         file_len: usize,
         number: *const u8,
@@ -245,16 +257,19 @@ fn tags(buffer: &mut [u8]) {
     }
 }
 
-/// How many jobs the archive has. The last is opened; the others have no bytes.
+/// How many jobs an archive has. The last is opened; the others have no bytes.
 const JOBS: usize = 64;
 const NUMBER: [u8; 8] = *b"24000064";
 const ARCHIVE_NUMBER: [u8; 4] = [0, 0, 0, 7];
-const JOB: usize = 60 << 10;
+/// How long a tag is.
+const TAG: usize = 16;
+/// The job's length: with its tag the archive is as long as one may be, 65,536 bytes.
+const JOB: usize = (64 << 10) - 20 - 16 * JOBS - TAG;
 /// The range of it: its last KiB.
 const RANGE: usize = 1 << 10;
 
-/// The archive, the plain bytes sealed by libcrypto.
-fn archive_of(plain: &[u8]) -> Vec<u8> {
+/// An archive, the plain bytes sealed by libcrypto; of layout 2 and tagged by it where there is a tag key.
+fn archive_of(plain: &[u8], tag_key: &[u8]) -> Vec<u8> {
     let mut check = [0xff; 16];
     run(Engine::Tables, &KEY, Direction::Forward, &mut check).expect("a block");
     let mut body = plain.to_vec();
@@ -264,10 +279,11 @@ fn archive_of(plain: &[u8]) -> Vec<u8> {
     Ctr::new(KEY.len()).run(&KEY, &first, &mut body);
 
     let start = 20 + 16 * JOBS;
-    let mut file = vec![1, KEY.len() as u8, 0, JOBS as u8];
+    let (layout, tag_size) = if tag_key.is_empty() { (1, 0) } else { (2, TAG) };
+    let mut file = vec![layout, KEY.len() as u8, 0, JOBS as u8];
     file.extend(ARCHIVE_NUMBER);
     file.extend(&check[..8]);
-    file.extend(((start + body.len()) as u32).to_be_bytes());
+    file.extend(((start + body.len() + tag_size) as u32).to_be_bytes());
     for job in 1..=JOBS {
         let length = if job == JOBS { body.len() } else { 0 };
         file.extend(format!("240000{job:02}").into_bytes());
@@ -275,22 +291,37 @@ fn archive_of(plain: &[u8]) -> Vec<u8> {
         file.extend((length as u32).to_be_bytes());
     }
     file.extend(body);
+    if !tag_key.is_empty() {
+        let tag = Cmac::new(tag_key.len()).tag(tag_key, &file);
+        file.extend(tag);
+    }
     file
 }
 
-fn check(file: &[u8]) {
+fn check(tag_key: &[u8], file: &[u8]) {
     // SAFETY: the slices are valid for their lengths. The function has no `requires`.
-    let number = unsafe { bench_check(KEY.as_ptr(), KEY.len(), file.as_ptr(), file.len()) };
+    let number = unsafe {
+        bench_check(
+            KEY.as_ptr(),
+            KEY.len(),
+            tag_key.as_ptr(),
+            tag_key.len(),
+            file.as_ptr(),
+            file.len(),
+        )
+    };
     assert_eq!(number, 0, "bench_check");
 }
 
-fn open(file: &[u8], out: &mut [u8]) {
+fn open(tag_key: &[u8], file: &[u8], out: &mut [u8]) {
     // SAFETY: the slices are valid for their lengths, and a mutable borrow overlaps no other. The function
     // has no `requires`.
     let number = unsafe {
         bench_open(
             KEY.as_ptr(),
             KEY.len(),
+            tag_key.as_ptr(),
+            tag_key.len(),
             file.as_ptr(),
             file.len(),
             NUMBER.as_ptr(),
@@ -302,18 +333,21 @@ fn open(file: &[u8], out: &mut [u8]) {
     assert_eq!(number, 0, "bench_open");
 }
 
-fn open_range(file: &[u8], first: usize, count: usize, out: &mut [u8]) {
+/// As many bytes of the job, from byte `first` on, as the buffer holds.
+fn open_range(tag_key: &[u8], file: &[u8], first: usize, out: &mut [u8]) {
     // SAFETY: as in `open`.
     let number = unsafe {
         bench_open_range(
             KEY.as_ptr(),
             KEY.len(),
+            tag_key.as_ptr(),
+            tag_key.len(),
             file.as_ptr(),
             file.len(),
             NUMBER.as_ptr(),
             NUMBER.len(),
             first,
-            count,
+            out.len(),
             out.as_mut_ptr(),
             out.len(),
         )
@@ -330,38 +364,63 @@ fn microseconds(calls: usize, call: &mut dyn FnMut()) -> f64 {
     (thread_seconds() - before) * 1e6 / calls as f64
 }
 
-fn openings(buffer: &mut [u8]) {
-    let plain = &buffer[..JOB];
-    let file = archive_of(plain);
-    let (mut whole, mut range) = (vec![0; JOB], vec![0; RANGE]);
-    open(&file, &mut whole);
-    assert_eq!(whole, plain, "another job than was sealed");
-    open_range(&file, JOB - RANGE, RANGE, &mut range);
-    assert_eq!(range, plain[JOB - RANGE..], "another range than was sealed");
-
-    let mut best = [f64::INFINITY; 3];
+/// The least of each over all rounds, in microseconds a call.
+fn least<const N: usize>(mut works: [(usize, &mut dyn FnMut()); N]) -> [f64; N] {
+    let mut least = [f64::INFINITY; N];
     for _ in 0..ROUNDS {
-        let figures = [
-            microseconds(64, &mut || check(&file)),
-            microseconds(64, &mut || {
-                open_range(&file, JOB - RANGE, RANGE, &mut range)
-            }),
-            microseconds(64, &mut || open(&file, &mut whole)),
-        ];
-        for (least, figure) in best.iter_mut().zip(figures) {
-            *least = least.min(figure);
+        for (figure, (calls, call)) in least.iter_mut().zip(&mut works) {
+            *figure = figure.min(microseconds(*calls, call));
         }
     }
+    least
+}
+
+/// The check, a range and a whole job, of an archive without a tag and of one with it, and CMAC of the
+/// bytes that its tag is made of.
+fn openings(buffer: &mut [u8]) {
+    let plain = &buffer[..JOB];
+    let archives = [&[], &TAG_KEY[..]].map(|tag_key| (tag_key, archive_of(plain, tag_key)));
+    let mut opened = [0, 1].map(|_| (vec![0; JOB], vec![0; RANGE]));
+    let first = JOB - RANGE;
+    for ((tag_key, file), (whole, range)) in archives.iter().zip(&mut opened) {
+        open(tag_key, file, whole);
+        assert_eq!(whole, plain, "another job than was sealed");
+        open_range(tag_key, file, first, range);
+        assert_eq!(range, &plain[first..], "another range than was sealed");
+    }
+
+    let [(no_key, file), (tag_key, tagged)] = &archives;
+    let [(whole, range), (tagged_whole, tagged_range)] = &mut opened;
+    let before_tag = &tagged[..tagged.len() - TAG];
+    let best = least([
+        (64, &mut || check(no_key, file)),
+        (64, &mut || open_range(no_key, file, first, range)),
+        (64, &mut || open(no_key, file, whole)),
+        (16, &mut || check(tag_key, tagged)),
+        (16, &mut || open_range(tag_key, tagged, first, tagged_range)),
+        (16, &mut || open(tag_key, tagged, tagged_whole)),
+        (16, &mut || {
+            cmac(tag_key, before_tag).expect("a key of 16 bytes");
+        }),
+    ]);
     println!("an archive of {JOBS} jobs, the last of {JOB} bytes, microseconds a call");
     let last = format!("the last {RANGE} bytes of that job, with the check");
     let rows = [
         "the check of key and file",
         &last,
         "the whole of that job, with the check",
+        "tagged, 64 KiB: the check of keys and file",
+        &format!("tagged: {last}"),
+        "tagged: the whole of that job, with the check",
+        "CMAC of the bytes before that tag",
     ];
     for (row, figure) in rows.iter().zip(best) {
-        println!("{row:<48} {figure:>8.1}");
+        println!("{row:<56} {figure:>8.1}");
     }
+    println!(
+        "tagged, the check, in times of CMAC {:>29.2}",
+        best[3] / best[6]
+    );
 }
 
 fn main() {

@@ -1,15 +1,19 @@
-"""Sees that docs/FORMAT.md is true: its worked example, its cipher, its rule for hexadecimal, its names.
+"""Sees that docs/FORMAT.md is true: its worked examples, its cipher, its reader, its rule for hexadecimal, its names.
 
     python3 tests/docs/check_format.py [PAGE]
 
-The example's bytes are those of examples/sample, its values of E libcrypto's, its listing what the
-program `jobs` is stored to print. The cipher below is written from the section "ARIA in short" alone,
-apart from the model of tests/vectors, reads its tables, constants and rotations off the page and
-follows sentences that must stand there; it must give the published vectors and libcrypto's bytes.
-Every definition that the page names stands in the file that it gives, needs no name that the page does
-not explain or find in a file above it, and gives the vectors too, computed by definitions.py.
+The examples' bytes are those of examples/sample and examples/tagged, their values of E and their tag
+libcrypto's, their listing what the program `jobs` is stored to print. The cipher below is written from
+the section "ARIA in short" alone, apart from the model of tests/vectors, reads its tables, constants and
+rotations off the page and follows sentences that must stand there; it must give the published vectors
+and libcrypto's bytes. The reader below is written from the page alone too, and takes the fields and the
+order of the checks from it; it must answer what the model of tests/model answers, on files of both
+layouts, whole and spoiled. Every definition that the page names stands in the file that it gives, needs
+no name that the page does not explain or find in a file above it, and gives the vectors and the tags
+too, computed by definitions.py.
 """
 
+import functools
 import os
 import random
 import re
@@ -30,23 +34,48 @@ HEX = re.compile(r"[0-9A-Fa-f ]+")
 BYTES = re.compile(r"[0-9a-f]{2}( [0-9a-f]{2})*")
 PLAIN = bytes(range(0x00, 0x100, 0x11))
 KEYS = [bytes(range(n)) for n in (16, 24, 32)]
+SMALL, TAGGED = "A small archive, byte by byte", "The same archive with a tag, byte by byte"
 # Words of prose that are written with the letters a to f alone.
-WORDS = {"a", "be", "add", "added"}
+WORDS = {"a", "be", "add", "added", "bad"}
 # Words of a paper that the reader does not have.
 FOREIGN = [r"\b[Pp]lates?\b", r"\b[Cc]ontents\b", r"\b[Dd]ocument \d+", r"\b0[12]\b", r"\b[Dd]emand \d"]
 ROOTS = ["scheduleOf", "encrypted", "counterBlock", "keystream", "addStream", "macOf"]
-# Sentences of rules that the cipher below, or the model, follows without reading them off the page: they must stand there as they are.
+# Sentences on the tag whose truth is tried below.
+TAGGED_SAYS = [
+    "The tag shows a change of any byte of the file, its own included.",
+    "Who sets the layout byte to 1, takes 16 from the whole length and cuts the tag off has an archive of layout 1,",
+    "which is accepted where no tag key is given.",
+    "such a file is then refused, with 24.",
+    "the same three steps make an archive of layout 1, with the same jobs under the same key.",
+    "The tag key must be a key of its own, under which nothing is encrypted: not the key of this archive, nor of any other.",
+    "no check can find it out.",
+    "There may be no jobs; the file is then 20 bytes long, or 36 in layout 2.",
+    "So a file of layout 2 with 20 to 35 bytes, which has no room for a header and a tag, gets 11 where no check before that applies.",
+    "The program `jobs`, with the tag key in `tag.bin`, prints of this archive the same three lines as of the one above; without it, `refused 24`.",
+    "Under another tag key it prints `refused 25`.",
+]
+# Sentences of rules that the cipher or the reader below follows without reading them off the page: they must stand there as they are.
 FOLLOWED = [
-    "The key is 16, 24 or 32 bytes long",
+    "A number of several bytes has its most significant byte first and has no sign.",
+    "A digit is one of the ten bytes `30` to `39`, the digits 0 to 9 of ASCII.",
+    "where a tag is made, and there alone, it is under the tag key.",
+    "Each is 16, 24 or 32 bytes long, and neither is in the archive.",
     "ARIA works in 12, 14 or 16 rounds for the three lengths.",
-    "A file is 20 to 65,536 bytes long.",
+    "A file is 20 to 65,536 bytes long in layout 1, and 36 to 65,536 in layout 2.",
+    "key check: the first eight bytes of E(sixteen bytes `ff`)",
     "The entry of job i, counted from 0, begins at position 20 + 16 × i.",
     "Job numbers ascend strictly in the order of years.",
     "The first two digits of a job number are its year: 70 to 99 are 1970 to 1999, 00 to 69 are 2000 to 2069.",
     "above another if its year is later, or if the years are the same and its other six digits are the greater number.",
     "The first begins where the directory ends, at 20 + 16 × count;",
+    "The bodies' end is the end of the file in layout 1, and the position of the tag's first byte in layout 2: the file's length, or the file's length - 16.",
     "Plain byte j is therefore body byte j ⊕ byte j mod 16 of E(counter block j div 16).",
-    "make the whole check, 1 to 17, first",
+    "The layout is no part of a counter block, and neither is the tag key.",
+    "The last 16 bytes of a file of layout 2 are its tag.",
+    "It is made under the tag key of all bytes before it: the header, the directory, and the bodies as they stand in the file, sealed.",
+    "A tag key of no bytes is none.",
+    "make the whole check, all of the above, first",
+    "find the entry that bears the job number, the same eight digits.",
     "first, a byte of the job counted from 0, and count, how many bytes from there on.",
     "in this order, 26 before 20:",
     "first plus count exceeds its length; a range of no bytes at the very end is accepted",
@@ -149,14 +178,14 @@ def faults_of_writing(page):
     for word in FOREIGN:
         for found in re.findall(word, page.words):
             yield "%s: a word of a paper that the reader does not have" % found
-    if len(page.indented) != 2:
-        yield "%d indented blocks, where the page says two" % len(page.indented)
+    if len(page.indented) != 3:
+        yield "%d indented blocks, where the page says three" % len(page.indented)
 
 
 def faults_of_refusals(page):
     numbers = [int(row[0]) for row in page.section("Reading").table("number", "refused because")]
-    if numbers != [1] + list(range(5, 20)) + [26, 20]:
-        yield "the refusals are not 1, 5 to 19, 26 and 20 in order"
+    if numbers != [1, 1, 5, 6, 7, 24, *range(8, 18), 25, 18, 19, 26, 20]:
+        yield "the refusals are not 1 for each key, 5 to 7, 24, 8 to 17, 25, 18, 19, 26 and 20 in order"
 
 
 def faults_of_layout(page):
@@ -174,43 +203,63 @@ def faults_of_layout(page):
             at += int(length)
         if at != size:
             yield "%s: the fields have %d bytes" % (title, at)
+    page.section("Tag, %d bytes, layout 2 only" % archive.TAG)
     said = dict(page.section("Reading").table("number", "refused because"))
+    room = "%d + %d × count exceeds the file's length in layout 1, or %d + %d × count does in layout 2"
     limits = {
         "5": "the file is shorter than %d bytes" % archive.PLATE,
         "6": "the file is longer than {:,} bytes".format(archive.LONGEST_FILE),
         "9": "the count exceeds %d" % archive.MOST_JOBS,
-        "11": "%d + %d × count exceeds the file's length" % (archive.PLATE, archive.ENTRY),
+        "11": room % (archive.PLATE, archive.ENTRY, archive.PLATE + archive.TAG, archive.ENTRY),
     }
     for number, reason in limits.items():
         if said[number] != reason:
             yield "refusal %s should say: %s" % (number, reason)
 
 
-# ---- the worked example
+# ---- the worked examples
 
 
-def faults_of_sample(page):
+def faults_of_samples(page):
+    """Both are worked, and the tagged one without its tag is the other."""
+    yield from faults_of_sample(page.section(SMALL), "sample")
+    yield from faults_of_sample(page.section(TAGGED), "tagged")
+    key, _, file = sample("tagged")
+    if (key, b"", without_tag(file)) != sample("sample"):
+        yield "the tagged sample without its tag is not the sample"
+
+
+def without_tag(file):
+    """The page's three steps from layout 2 to layout 1."""
+    return b"\1" + file[1:16] + (len(file) - archive.TAG).to_bytes(4, "big") + file[20 : -archive.TAG]
+
+
+def sample(folder):
+    """A sample's key, its tag key and its archive; where there is no tag.bin there is no tag key."""
+    place = "examples/%s/" % folder
+    tag_key = read(place + "tag.bin", "rb") if os.path.exists(os.path.join(TOP, place, "tag.bin")) else b""
+    return read(place + "key.bin", "rb"), tag_key, read(place + "archive.bin", "rb")
+
+
+def faults_of_sample(page, folder):
     """The rows are the sample's bytes, one after the other, and say the numbers that these are."""
-    file, at = read("examples/sample/archive.bin", "rb"), 0
+    (key, tag_key, file), at = sample(folder), 0
     for place, cell, meaning in page.table("position", "bytes", "meaning"):
-        if "`" not in cell:
-            continue
         data = octets(cell)
         last = at + len(data) - 1
         if place != ("%d" % at if last == at else "%d to %d" % (at, last)):
             yield "position %s: these bytes are %d to %d" % (place, at, last)
         if file[at : last + 1] != data:
             yield "position %s: the sample has %s" % (place, file[at : last + 1].hex(" "))
-        if "key check" not in meaning and "the body of" not in meaning:
+        if not re.match("key check|the body of|the tag of", meaning):
             said = data.decode() if data.isdigit() else "%d" % int.from_bytes(data, "big")
             if not re.search(r"(?<!\d)%s(?!\d)" % said, meaning):
                 yield "position %s: the bytes are %s, the page says: %s" % (place, said, meaning)
         at = last + 1
-    if at != len(file) or "archive.bin`, %d bytes" % at not in page.text:
-        yield "the sample has %d bytes, the page works %d" % (len(file), at)
-    key = read("examples/sample/key.bin", "rb")
-    if key.hex(" ") not in page.spans:
-        yield "the sample's key is not on the page"
+    if at != len(file) or "`examples/%s/archive.bin`, %d bytes" % (folder, at) not in page.text:
+        yield "examples/%s has %d bytes, the page works %d" % (folder, len(file), at)
+    if (tag_key or key).hex(" ") not in page.spans:
+        yield "the key that examples/%s brings is not on the page" % folder
 
 
 def faults_of_example(page):
@@ -252,9 +301,22 @@ def faults_of_key_checks(page):
             yield "%s: E of sixteen bytes ff is %s" % (cell, sealed.hex(" "))
 
 
+def faults_of_worked_tag(page):
+    """The values on the way to the tagged sample's tag are those of the section's rule, and the tag is libcrypto's."""
+    _, key, file = sample("tagged")
+    rows = page.section(TAGGED).table("tag of bytes 0 to 56", "bytes")
+    steps = tag_steps(functools.partial(libcrypto.forward, key), file[:57], constant_of(page))
+    if [(label, octets(cell)) for label, cell in rows] != steps:
+        yield "the tag is worked otherwise than by the rule: %s" % [(label, value.hex(" ")) for label, value in steps]
+    if not file[57:] == steps[-1][1] == libcrypto.cmac(key, file[:57]):
+        yield "the tagged sample's tag is not libcrypto's"
+    if fallen(steps[0][1], steps[1][1]) != [0, 0] or "In neither doubling does a bit fall out." not in page.text:
+        yield "it does not say which doublings let a bit fall out"
+
+
 def faults_of_text(page):
-    """What `jobs` prints, and the command, which is run where its two programs are found."""
-    listing, command = ["\n".join(line[4:] for line in block.splitlines()) + "\n" for block in page.indented]
+    """What `jobs` prints, and the commands, which are run where their programs are found."""
+    listing, command, tagging = ["\n".join(line[4:] for line in block.splitlines()) + "\n" for block in page.indented]
     if listing != read("crates/jobs/stdout"):
         yield "the listing is not crates/jobs/stdout"
     block, key = re.search(r"printf (\w+) .* -aria-128-ecb -nopad -K (\w+) ", command, re.S).groups()
@@ -262,13 +324,18 @@ def faults_of_text(page):
     sealed = libcrypto.forward(bytes.fromhex(key), bytes.fromhex(block))
     if octets(rows["counter block 0"]).hex() != block or octets(rows["E(counter block 0)"]) != sealed:
         yield "the command does not encrypt counter block 0"
-    if runs_command():
-        out = subprocess.run(["sh", "-c", command], capture_output=True, text=True)
-        if out.stdout.strip() != sealed.hex():
-            yield "the command prints %s%s" % (out.stdout.strip(), out.stderr.strip())
+    whole, key = re.search(r"head -c (\d+) examples/tagged/archive.bin .* hexkey:(\w+) CMAC", tagging, re.S).groups()
+    _, tag_key, file = sample("tagged")
+    if int(whole) != len(file) - archive.TAG or bytes.fromhex(key) != tag_key:
+        yield "the second command does not make the tagged sample's tag"
+    if runs_commands():
+        for text, wanted in ((command, sealed.hex()), (tagging, file[-archive.TAG :].hex().upper())):
+            out = subprocess.run(["sh", "-c", text], capture_output=True, text=True, cwd=TOP)
+            if out.stdout.strip() != wanted:
+                yield "a command prints %s%s" % (out.stdout.strip(), out.stderr.strip())
 
 
-def runs_command():
+def runs_commands():
     return all(shutil.which(program) for program in ("openssl", "xxd"))
 
 
@@ -427,21 +494,37 @@ def faults_of_aria(page):
 # ---- tags
 
 
-def tag_of(key, message, constant):
-    """The tag by the section's sentences."""
+def constant_of(page):
+    return int(re.search(r"the last byte is ⊕ `(\w\w)`", page.text).group(1), 16)
+
+
+def tag_steps(encrypt, message, constant):
+    """The tag by the section's sentences, with the values on the way to it: each with its label in the worked example."""
 
     def doubled(block):
         shifted = int.from_bytes(block, "big") * 2
         return xor((shifted % 2**128).to_bytes(16, "big"), bytes(15) + bytes([constant * (shifted >> 128)]))
 
-    k1 = doubled(libcrypto.forward(key, bytes(16)))
-    blocks = [message[at : at + 16] for at in range(0, len(message), 16)] or [b""]
-    last = blocks.pop()
-    blocks.append(xor(last, k1) if len(last) == 16 else xor((last + b"\x80").ljust(16, b"\0"), doubled(k1)))
+    first = encrypt(bytes(16))
+    k1 = doubled(first)
+    k2 = doubled(k1)
+    steps = [("L", first), ("K1", k1), ("K2", k2)]
+    *pieces, last = [message[at : at + 16] for at in range(0, len(message), 16)] or [b""]
     value = bytes(16)
-    for block in blocks:
-        value = libcrypto.forward(key, xor(value, block))
-    return value
+    for n, piece in enumerate(pieces):
+        value = encrypt(xor(value, piece))
+        steps += [("piece %d" % n, piece), ("C after piece %d" % n, value)]
+    steps.append(("last piece", last))
+    if len(last) == 16:
+        steps.append(("last piece, ⊕ K1", xor(last, k1)))
+    else:
+        filled = (last + b"\x80").ljust(16, b"\0")
+        steps += [("last piece, filled up", filled), ("last piece, filled up, ⊕ K2", xor(filled, k2))]
+    return steps + [("C after the last piece, the tag", encrypt(xor(value, steps[-1][1])))]
+
+
+def tag_of(encrypt, message, constant):
+    return tag_steps(encrypt, message, constant)[-1][1]
 
 
 def tagged(cell, file):
@@ -453,20 +536,321 @@ def tagged(cell, file):
     }[cell]
 
 
+def fallen(*blocks):
+    """Of each block, the bit that falls out when it is doubled."""
+    return [block[0] >> 7 for block in blocks]
+
+
 def faults_of_tags(page):
-    """The tags are libcrypto's, and so are those that the section's rule gives."""
+    """The tags are libcrypto's, and so are those that the section's rule gives; so are the values on the way to them."""
     rows = page.table("tag key", "bytes", "tag")
-    if [key_of(row[0]) for row in rows] != KEYS:
+    subkeys = page.table("tag key", "L", "K1", "K2")
+    if not [key_of(row[0]) for row in rows] == [key_of(row[0]) for row in subkeys] == KEYS:
         yield "the tags are not under the RFC's three keys"
-    (constant,) = re.search(r"the last byte is ⊕ `(\w\w)`", page.text).groups()
     file = read("examples/sample/archive.bin", "rb")
     for cell, what, tag in rows:
         if octets(tag) != libcrypto.cmac(key_of(cell), tagged(what, file)):
             yield "%s, %s: the tag is not libcrypto's" % (cell, what)
     for key in KEYS:
         for length in range(50):
-            if tag_of(key, (file * 2)[:length], int(constant, 16)) != libcrypto.cmac(key, (file * 2)[:length]):
+            made = tag_of(functools.partial(libcrypto.forward, key), (file * 2)[:length], constant_of(page))
+            if made != libcrypto.cmac(key, (file * 2)[:length]):
                 yield "the section gives another tag of %d bytes than libcrypto" % length
+    bits = []
+    for cell, *values in subkeys:
+        steps = tag_steps(functools.partial(libcrypto.forward, key_of(cell)), b"", constant_of(page))
+        if [octets(value) for value in values] != [value for _, value in steps[:3]]:
+            yield "%s: L, K1 and K2 are not those of the rule" % cell
+        bits.append(fallen(steps[0][1], steps[1][1]))
+    said = "in both doublings of the first row, in none of the second, in the second alone of the third"
+    if bits != [[1, 1], [0, 0], [0, 1]] or said not in page.text:
+        yield "it does not say in which doublings a bit falls out"
+
+
+# ---- the reader, from the page alone
+
+
+class Reader:
+    """What the page says of reading: its fields, and its checks in their order. `encrypt` is E of a key and a block."""
+
+    def __init__(self, page, encrypt):
+        self.encrypt, self.constant = encrypt, constant_of(page)
+        self.header = fields(page.section("Header, 20 bytes"), "position")
+        self.entry = fields(page.section("Directory, 16 bytes a job"), "position in the entry")
+        self.block = fields(page.section("Bodies"), "position in the block")
+        turns = "^Then for each entry in turn, all of its checks before the next entry:$|^Then:$|^A file that passes is accepted"
+        parts = re.split(turns, page.section("Reading").text, flags=re.M)
+        tables = [Page(part).table("number", "refused because") for part in parts]
+        self.first, self.by_entry, self.then, self.opening = tables
+
+
+def fields(page, place):
+    """Where each field lies, by the words that its meaning begins with."""
+    rows = page.table(place, "bytes", "meaning")
+    return {re.split("[:;,]", meaning)[0]: (int(at), int(size)) for at, size, meaning in rows}
+
+
+class Reading:
+    """A file as it is read under a key and a tag key, and what is asked of it."""
+
+    def __init__(self, reader, key, tag_key, file, asked=b"", first=0, count=0, room=0):
+        self.reader, self.key, self.tag_key, self.file = reader, key, tag_key, file
+        self.asked, self.first, self.count, self.room = asked, first, count, room
+
+    def header(self, name):
+        at, size = self.reader.header[name]
+        return self.file[at : at + size]
+
+    def number(self, name):
+        return int.from_bytes(self.header(name), "big")
+
+    def entry(self, index, name):
+        at, size = self.reader.entry[name]
+        return self.file[20 + 16 * index + at :][:size]
+
+    def body(self, index):
+        """Where a body starts, and its length."""
+        names = "start", "length of the body in bytes"
+        return [int.from_bytes(self.entry(index, name), "big") for name in names]
+
+    def jobs(self):
+        return self.number("count of jobs")
+
+    def end_before(self, index):
+        """The end of the body before an entry, or of the directory for entry 0."""
+        return sum(self.body(index - 1)) if index else 20 + 16 * self.jobs()
+
+    def bodies_end(self):
+        return len(self.file) - (16 if self.number("layout") == 2 else 0)
+
+    def tag(self):
+        return tag_of(functools.partial(self.reader.encrypt, self.tag_key), self.file[:-16], self.reader.constant)
+
+    def found(self):
+        return [index for index in range(self.jobs()) if self.entry(index, "job number") == self.asked]
+
+    def applies(self, rows):
+        return next((int(number) for number, reason in rows if CHECKS[reason](self)), 0)
+
+    def refusal(self):
+        """The number of the first check that applies, 0 where the file is accepted."""
+        refused = self.applies(self.reader.first)
+        self.index = 0
+        while not refused and self.index < self.jobs():
+            refused = self.applies(self.reader.by_entry)
+            self.index += 1
+        return refused or self.applies(self.reader.then)
+
+    def opened(self):
+        """The number of the first check that applies, or 0; and the plain bytes of the range."""
+        refused = self.refusal() or self.applies(self.reader.opening)
+        if refused:
+            return refused, b""
+        start, _ = self.body(self.found()[0])
+        return 0, bytes(self.file[start + j] ^ self.stream(j) for j in range(self.first, self.first + self.count))
+
+    def stream(self, j):
+        parts = {"archive number": self.header("archive number"), "job number": self.asked, "n": (j // 16).to_bytes(4, "big")}
+        block = bytearray(16)
+        for name, (at, size) in self.reader.block.items():
+            block[at : at + size] = parts[name]
+        return self.reader.encrypt(self.key, bytes(block))[j % 16]
+
+    def listing(self):
+        """What `jobs` prints."""
+        refused = self.refusal()
+        if refused:
+            return "refused %d\n" % refused
+        lines = ["jobs %d\n" % self.jobs()]
+        for index in range(self.jobs()):
+            lines.append("%s %d %d\n" % (self.entry(index, "job number").decode(), *self.body(index)))
+        return "".join(lines)
+
+
+def digits(number):
+    return all(0x30 <= byte <= 0x39 for byte in number)
+
+
+def in_years(number):
+    year = int(number[:2])
+    return (1900 if year >= 70 else 2000) + year, int(number[2:])
+
+
+# The reader's way to each check, by the words that must stand on the page; its number and its place are the page's.
+CHECKS = {
+    "the key is not 16, 24 or 32 bytes long": lambda a: len(a.key) not in (16, 24, 32),
+    "a tag key is given, and is not 16, 24 or 32 bytes long": lambda a: a.tag_key and len(a.tag_key) not in (16, 24, 32),
+    "the file is shorter than 20 bytes": lambda a: len(a.file) < 20,
+    "the file is longer than 65,536 bytes": lambda a: len(a.file) > 65536,
+    "the layout byte is neither 1 nor 2": lambda a: a.number("layout") not in (1, 2),
+    "a tag key is given and the layout is 1, or none is given and it is 2": (
+        lambda a: a.number("layout") == (1 if a.tag_key else 2)
+    ),
+    "the header's key length differs from the key's": lambda a: a.number("length of the key in bytes") != len(a.key),
+    "the count exceeds 64": lambda a: a.jobs() > 64,
+    "the header's whole length differs from the file's": (
+        lambda a: a.number("length of the whole file in bytes") != len(a.file)
+    ),
+    "20 + 16 × count exceeds the file's length in layout 1, or 36 + 16 × count does in layout 2": (
+        lambda a: {1: 20, 2: 36}[a.number("layout")] + 16 * a.jobs() > len(a.file)
+    ),
+    "the key check differs": lambda a: a.header("key check") != a.reader.encrypt(a.key, b"\xff" * 16)[:8],
+    "a byte of the job number is no digit": lambda a: not digits(a.entry(a.index, "job number")),
+    "the job number is not above that of the entry before it in the order of years; "
+    "entry 0 has no entry before it, and no check 14": (
+        lambda a: a.index > 0
+        and in_years(a.entry(a.index, "job number")) <= in_years(a.entry(a.index - 1, "job number"))
+    ),
+    "the start is not the end of the body before it, or of the directory for entry 0": (
+        lambda a: a.body(a.index)[0] != a.end_before(a.index)
+    ),
+    "start plus length passes the bodies' end": lambda a: sum(a.body(a.index)) > a.bodies_end(),
+    "bytes remain between the last body, or the directory if there are no jobs, and the bodies' end": (
+        lambda a: a.end_before(a.jobs()) < a.bodies_end()
+    ),
+    "in layout 2, the last 16 bytes are not the tag of all bytes before them; layout 1 has no tag, and no check 25": (
+        lambda a: a.number("layout") == 2 and a.file[-16:] != a.tag()
+    ),
+    "the number asked for is not exactly eight digits": lambda a: len(a.asked) != 8 or not digits(a.asked),
+    "no entry bears it": lambda a: not a.found(),
+    "the range passes the job's end: first plus count exceeds its length; a range of no bytes at the very end is accepted": (
+        lambda a: a.first + a.count > a.body(a.found()[0])[1]
+    ),
+    "the buffer for the plain bytes is shorter than the range; a reader that makes the buffer itself never meets this": (
+        lambda a: a.room < a.count
+    ),
+}
+
+
+def written(key, tag_key, jobs):
+    """An archive of jobs, by the page's layouts: of layout 2 where there is a tag key."""
+    directory = bodies = b""
+    for number, plain in jobs:
+        start = 20 + 16 * len(jobs) + len(bodies)
+        directory += number + start.to_bytes(4, "big") + len(plain).to_bytes(4, "big")
+        bodies += libcrypto.counter(key, (7).to_bytes(4, "big") + number + bytes(4), plain)
+    front = bytes([2 if tag_key else 1, len(key)]) + len(jobs).to_bytes(2, "big") + (7).to_bytes(4, "big")
+    front += libcrypto.forward(key, b"\xff" * 16)[:8] + bytes(4)
+    return mended(front + directory + bodies + bytes(16 if tag_key else 0), tag_key)
+
+
+def mended(file, tag_key):
+    """The file with its own length in the header, and with a right tag where there is a good tag key."""
+    file = file[:16] + len(file).to_bytes(4, "big") + file[20:]
+    return file[:-16] + libcrypto.cmac(tag_key, file[:-16]) if len(tag_key) in (16, 24, 32) else file
+
+
+def trials():
+    """Archives of both layouts, whole and spoiled, each with a key and a tag key."""
+    key, tag_key = KEYS[0], bytes(range(0x10, 0x30))
+    jobs = [(b"24000017", b"dried"), (b"24000018", b"")]
+    samples = [(given, written(key, given, jobs)) for given in (b"", tag_key)]
+    lengths = (0, 1, 15, 16, 17, 24, 31, 32, 33)
+    for file in (b"", *(file for _, file in samples)):
+        yield from ((bytes(range(n)), tag_key[:1] * m, file) for n in lengths for m in lengths)
+    many = [(b"%08d" % n, bytes(n)) for n in range(65)]
+    years = [(b"97000004", b"old"), (b"05000001", b"newer")]
+    for given in (b"", *(bytes(range(0x10, 0x10 + n)) for n in (16, 24, 32))):
+        for sealing in KEYS:
+            for sheet in ([], jobs, many[:64], many, years, years[::-1]):
+                yield sealing, given, written(sealing, given, sheet)
+        room = 65536 - 36 - (16 if given else 0)
+        for size in (room, room + 1):
+            file = written(key, given, [(b"24000017", bytes(size))])
+            yield from ((key, given, file), (key, given, b"\3" + file[1:]))
+        for size in range(20, 38):
+            yield key, given, mended(written(key, given, [])[:20].ljust(size, b"\0"), given)
+    for given, file in samples:
+        for at, byte in enumerate(file):
+            for value in {0, 1, 2, 3, 0x2F, 0x30, 0x3A, 0xFF, byte ^ 1, byte ^ 0x80} - {byte}:
+                changed = file[:at] + bytes([value]) + file[at + 1 :]
+                yield from ((key, given, changed), (key, given, mended(changed, given)))
+        for size in range(20, len(file)):
+            yield from ((key, given, file[:size]), (key, given, mended(file[:size], given)))
+    source = random.Random(2)
+    for _ in range(4000):
+        given, file = source.choice(samples)
+        file = bytearray(file + bytes(source.choice((0, 0, 0, 1, 16))))
+        for at in source.sample([0, 1, 2, 3, 8, 19, 20, 27, 31, 35, 36, 43, 47, 51, 56, len(file) - 1], source.randint(1, 4)):
+            file[at] = source.choice((0, 1, 2, 24, 0x30, 0x37, file[at] + 1 & 0xFF, file[at] - 1 & 0xFF))
+        file = mended(bytes(file), given) if source.randrange(3) else bytes(file)
+        yield source.choice((key, key, key, KEYS[1], b"")), source.choice((given, given, given, b"", tag_key, b"\0")), file
+
+
+def modelled(call, *arguments):
+    """The model's refusal or 0, and what it answers."""
+    try:
+        return 0, call(*arguments)
+    except archive.Refused as refused:
+        return refused.number, b""
+
+
+def faults_of_reading(page):
+    """The page's reader answers what the model answers, and what the page says that it answers."""
+    reader, met = Reader(page, libcrypto.forward), set()
+    for key, tag_key, file in trials():
+        refused, (wanted, _) = Reading(reader, key, tag_key, file).refusal(), modelled(archive.check, key, tag_key, file)
+        met.add(wanted)
+        if refused != wanted:
+            yield "by the page %d, by the model %d: %s" % (refused, wanted, [part.hex() for part in (key, tag_key, file[:80])])
+            return
+    if met != {0, 1, *range(5, 18), 24, 25}:
+        yield "the files meet only the refusals %s" % sorted(met)
+    yield from faults_of_opening(page, reader)
+    yield from faults_of_tagged(page, reader)
+
+
+def faults_of_opening(page, reader):
+    """Ranges of both samples' jobs open as the model opens them, and with the page's own cipher too."""
+    by_page, met = Reader(page, Aria(page).encrypted), set()
+    for folder in ("sample", "tagged"):
+        key, tag_key, file = sample(folder)
+        for asked in (b"24000017", b"24000018", b"24000019", b"2400001", b"2400001x"):
+            for first, count, room in ((0, 0, 0), (0, 5, 5), (0, 5, 4), (1, 3, 9), (5, 0, 0), (5, 1, 1), (6, 0, 0), (0, 6, 5)):
+                asking = (key, tag_key, file, asked, first, count, room)
+                given, wanted = Reading(reader, *asking).opened(), modelled(archive.open_range, *asking)
+                met.add(wanted[0])
+                if given != wanted:
+                    yield "%s: by the page %s, by the model %s of %s" % (folder, given, wanted, asking[3:])
+        if Reading(by_page, key, tag_key, file, b"24000017", 0, 5, 5).opened() != (0, b"dried"):
+            yield "the page's reader, with its cipher, does not open examples/%s" % folder
+    if met != {0, 18, 19, 20, 26}:
+        yield "what is asked meets only the refusals %s" % sorted(met)
+
+
+def faults_of_tagged(page, reader):
+    """What the page says that the tag shows, and that it does not."""
+    key, tag_key, file = sample("tagged")
+    bare = without_tag(file)
+    header = written(key, tag_key, [])[:20]
+    other = bytes(reversed(tag_key))
+    answers = [
+        ("the tagged sample", tag_key, file, 0),
+        ("it under the archive's key", key, file, 25),
+        ("it, tagged under the archive's key, under that", key, mended(file, key), 0),
+        ("its tag taken off, without a tag key", b"", bare, 0),
+        ("its tag taken off, with the tag key", tag_key, bare, 24),
+        ("it, tagged under another tag key", tag_key, mended(file, other), 25),
+        ("no jobs in layout 2", tag_key, mended(header + bytes(16), tag_key), 0),
+    ]
+    for size in range(20, 36):
+        answers.append(("%d bytes" % size, tag_key, header[:16] + size.to_bytes(4, "big") + bytes(size - 20), 11))
+    for what, given, read_file, wanted in answers:
+        refused = Reading(reader, key, given, read_file).refusal()
+        if refused != wanted:
+            yield "%s: %d" % (what, refused)
+    for at in range(len(file)):
+        for bit in range(8):
+            if not Reading(reader, key, tag_key, file[:at] + bytes([file[at] ^ 1 << bit]) + file[at + 1 :]).refusal():
+                yield "a change of byte %d does not show" % at
+    listing = read("crates/jobs/stdout")
+    for given, wanted in ((tag_key, listing), (b"", "refused 24\n"), (other, "refused 25\n")):
+        printed = Reading(reader, key, given, file).listing()
+        if not printed == wanted == archive.jobs_text(key, given, file).decode():
+            yield "`jobs` prints of the tagged sample: %s" % printed
+    for sentence in TAGGED_SAYS:
+        if sentence not in page.text:
+            yield "it does not say: %s" % sentence
 
 
 # ---- the project's definitions
@@ -532,11 +916,13 @@ def faults_of_computing(page):
         yield "the definitions do not open the sample"
     if bytes(computed("addStream", stream, 1, file[53:56])) != b"rie":
         yield "the definitions do not open a range of the sample"
-    for cell, what, tag in page.table("tag key", "bytes", "tag"):
-        schedule = computed("scheduleOf", tuple(key_of(cell)))
-        made = computed("macOf", computed("encrypted", schedule), tuple(tagged(what, bytes(file))))
-        if bytes(made) != octets(tag):
-            yield "%s, %s: the definitions give the tag %s" % (cell, what, bytes(made).hex(" "))
+    rows = page.table("tag key", "bytes", "tag")
+    tags = [(key_of(cell), tagged(what, bytes(file)), octets(tag)) for cell, what, tag in rows]
+    _, tag_key, other = sample("tagged")
+    for key, message, tag in tags + [(tag_key, other[: -archive.TAG], other[-archive.TAG :])]:
+        made = computed("macOf", computed("encrypted", computed("scheduleOf", tuple(key))), tuple(message))
+        if bytes(made) != tag:
+            yield "the definitions give another tag of %d bytes: %s" % (len(message), bytes(made).hex(" "))
 
 
 def faults_of_paths(page):
@@ -551,12 +937,14 @@ def main():
         faults_of_writing,
         faults_of_refusals,
         faults_of_layout,
-        faults_of_sample,
+        faults_of_samples,
         faults_of_example,
         faults_of_key_checks,
+        faults_of_worked_tag,
         faults_of_text,
         faults_of_aria,
         faults_of_tags,
+        faults_of_reading,
         faults_of_definitions,
         faults_of_computing,
         faults_of_paths,
@@ -573,11 +961,12 @@ def main():
         sys.exit(1)
     spans = sum(1 for span in page.spans if BYTES.fullmatch(span))
     seen = [
-        "the example is the sample's and libcrypto's",
+        "the examples are the samples' and libcrypto's",
         "ARIA in short gives the RFC's vectors and the rule of CMAC libcrypto's tags",
         "so do the definitions",
+        "a reader by the page answers as the model",
         "%d spans of bytes keep the rule" % spans,
-        "the command was run" if runs_command() else "the command was not run, for want of openssl or xxd",
+        "the commands were run" if runs_commands() else "the commands were not run, for want of openssl or xxd",
     ]
     print("docs/FORMAT.md: " + ", ".join(seen))
 

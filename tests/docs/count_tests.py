@@ -59,17 +59,19 @@ def figures():
     for program in ("vectors", "known_answers"):
         yield "lines that `%s` is to print" % program, count("^.", "crates/%s/stdout" % program)
     yield "stored cases of `jobs`", len(found("tests/jobs/*/stdin"))
-    made, changed = list(cases.made()), list(cases.changes())
+    made, changed = list(cases.made()), [*cases.changes(), *cases.tagged_changes()]
     chosen = list(cases.random_changes(0, run.RANDOM_CASES))
     yield "archives of the model made for one answer", len(made)
     yield "archives of the model with one byte changed", len(changed)
     yield "random archives of the model", len(chosen)
     yield "distinct ones among all these", len({case.file for case in made + changed + chosen})
+    yield "archives of layout 2 among all these", sum(case.file[:1] == b"\2" for case in made + changed + chosen)
     asked = [words for _, words in run.asked_of_open(made + changed + chosen)] + [words for _, _, words in run.asked_slowly()]
     yield "runs of `jobs` by the model", len(made + changed + chosen) + len(run.SLOW)
     yield "runs of `open` by the model, with the random archives of seed 0", len(asked)
     yield "of these with a range", sum(len(words) > 1 for words in asked)
     yield "openings of `tests/model/ranges.py`", sum(1 for _ in ranges.openings())
+    yield "its checks of archives with a byte changed, or cut", sum(1 for _ in ranges.altered())
     yield "its runs of counter mode", sum(1 for _ in ranges.streams())
     faults = programs()
     yield "cases of `tests/programs`", sum(len(list(faults.cases(says))) for says in faults.PROGRAMS)

@@ -3,7 +3,8 @@
     python3 tests/jobs/run.py target/bin/jobs
 
 A case is a folder with `stdin`, the expected `stdout` and, unless the case is that it is missing,
-`key.bin`. tests/model/stored.py made them. The last line is a count, or says which differ.
+`key.bin`; `tag.bin` is there where there is a tag key. tests/model/stored.py made them. The last line
+is a count, or says which differ.
 """
 
 import os
@@ -32,13 +33,13 @@ def main():
     differ = []
     with Program(sys.argv[1]) as program:
         for case in cases:
-            key, archive = content(case, "key.bin"), content(case, "stdin")
+            key, tag_key, archive = (content(case, name) for name in ("key.bin", "tag.bin", "stdin"))
             expected = Written(content(case, "stdout"), b"", 0)
             # small pieces, and yet not many thousands of them
             piece = max(1, len(archive) // 100)
             ways = {
-                "from a file": program.from_file(key, archive),
-                "through a slow pipe": program.from_pipe(key, archive, piece),
+                "from a file": program.from_file(key, tag_key, archive),
+                "through a slow pipe": program.from_pipe(key, tag_key, archive, piece),
             }
             for way, written in ways.items():
                 print("%s, %s: %s" % (case, way, "ok" if written == expected else "DIFFERS"))

@@ -18,7 +18,9 @@ shown whole, and had FILL everywhere before. Then a line a range,
 
     open NUMBER from FIRST, count COUNT, in N bytes: bytes M, buffer HEX
 
-where the calls with buffers of one length have one buffer in turn. Then a line a search of bare
+where the calls with buffers of one length have one buffer in turn. Then what checking answers of the
+tagged sample, examples/tagged, and of the other under tag keys, and with bits changed, and the same
+calls on the tagged sample. Then a line a search of bare
 contents, in which FILL stands for what a search does not look at,
 
     search 'NUMBER' in 'CONTENTS': index I
@@ -43,6 +45,7 @@ import libcrypto  # noqa: E402
 import stored  # noqa: E402
 
 KEY = bytes(range(16))
+NO_TAG_KEY = b""
 FILL = b"."
 BLOCK = bytes(0x11 * i for i in range(16))
 
@@ -111,20 +114,41 @@ def cases():
     yield "count 65", empty_jobs(65)
 
 
-def answer(file):
+def answer(file, tag_key=NO_TAG_KEY):
     try:
-        return "jobs %d" % archive.check(KEY, file)
+        return "jobs %d" % archive.check(KEY, tag_key, file)
     except archive.Refused as refused:
         return "refused %d" % refused.number
 
 
-def sample():
-    with open(os.path.join(stored.TOP, "examples/sample/archive.bin"), "rb") as file:
+def example(name):
+    with open(os.path.join(stored.TOP, "examples", name), "rb") as file:
         return file.read()
 
 
-def directory(file):
-    return file[archive.PLATE :][: archive.ENTRY * archive.check(KEY, file)]
+def sample():
+    return example("sample/archive.bin")
+
+
+def bit_changed(file, at):
+    return file[:at] + bytes([file[at] ^ 1]) + file[at + 1 :]
+
+
+def tagged_cases():
+    file, tag_key = example("tagged/archive.bin"), example("tagged/tag.bin")
+    yield "tagged, no tag key", answer(file)
+    yield "tagged, 33 bytes of tag key", answer(file, tag_key + b"\x30")
+    yield "tagged, 31 bytes of tag key", answer(file, tag_key[:31])
+    yield "tagged, under the key", answer(file, KEY)
+    yield "tagged", answer(file, tag_key)
+    yield "layout 1 under a tag key", answer(sample(), tag_key)
+    yield "tagged, its last bit changed", answer(bit_changed(file, 72), tag_key)
+    yield "tagged, a bit of the body changed", answer(bit_changed(file, 56), tag_key)
+    yield "tagged, a bit of the archive number changed", answer(bit_changed(file, 7), tag_key)
+
+
+def directory(tag_key, file):
+    return file[archive.PLATE :][: archive.ENTRY * archive.check(KEY, tag_key, file)]
 
 
 def place(call, *arguments):
@@ -134,38 +158,38 @@ def place(call, *arguments):
         return "refused %d" % refused.number
 
 
-def body(file, number):
+def body(tag_key, file, number):
     try:
-        entry = archive.entry_at(file, archive.find(KEY, file, number))
+        entry = archive.entry_at(file, archive.find(KEY, tag_key, file, number))
     except archive.Refused:
         return b""
     return file[entry.start :][: entry.length]
 
 
-def opened(file, number, buffer, bounds=()):
+def opened(tag_key, file, number, buffer, bounds=()):
     """What opening answers and leaves, as it is printed, and the buffer then."""
-    refusal, count, left = archive.opened_into(KEY, file, number, bounds, buffer)
+    refusal, count, left = archive.opened_into(KEY, tag_key, file, number, bounds, buffer)
     answer = "refused %d" % refusal if refusal else "bytes %d" % count
     return "%s, buffer %s" % (answer, left.hex()), left
 
 
-def calls(file):
+def calls(tag_key, file):
     # the second job, whose index is not 0, and one that is not there
     for number in (b"24000018", b"24000019"):
-        yield "find %s" % number.decode(), place(archive.find, KEY, file, number)
-    yield "directory", directory(file).hex()
+        yield "find %s" % number.decode(), place(archive.find, KEY, tag_key, file, number)
+    yield "directory", directory(tag_key, file).hex()
     for number in (b"24000017", b"24000019"):
-        yield "body of %s" % number.decode(), "'%s'" % body(file, number).hex()
+        yield "body of %s" % number.decode(), "'%s'" % body(tag_key, file, number).hex()
     # one that is not there; three bytes more than the body, then one fewer
     for number, room in ((b"24000019", 8), (b"24000017", 8), (b"24000017", 4)):
-        yield "open %s in %d bytes" % (number.decode(), room), opened(file, number, FILL * room)[0]
+        yield "open %s in %d bytes" % (number.decode(), room), opened(tag_key, file, number, FILL * room)[0]
 
 
-def ranges(file):
+def ranges(tag_key, file):
     """Ranges about the ends of the job of five bytes and of the buffers, which a later call finds as an earlier one left them."""
     buffers = {8: FILL * 8, 2: FILL * 2}
     for number, first, count, room in RANGES:
-        given, buffers[room] = opened(file, number, buffers[room], (first, count))
+        given, buffers[room] = opened(tag_key, file, number, buffers[room], (first, count))
         yield "open %s from %d, count %d, in %d bytes" % (number.decode(), first, count, room), given
 
 
@@ -209,9 +233,10 @@ def verdicts(file):
 if __name__ == "__main__":
     for case, file in cases():
         print("%s: %s" % (case, answer(file)))
-    for call, given in calls(sample()):
+    for call, given in (*calls(NO_TAG_KEY, sample()), *ranges(NO_TAG_KEY, sample()), *tagged_cases()):
         print("%s: %s" % (call, given))
-    for call, given in ranges(sample()):
+    tagged = example("tagged/tag.bin"), example("tagged/archive.bin")
+    for call, given in (*calls(*tagged), *ranges(*tagged)):
         print("%s: %s" % (call, given))
     for call, given in searches():
         print("%s: %s" % (call, given))

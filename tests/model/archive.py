@@ -1,16 +1,19 @@
-"""The rules of the dryer archive, layout 1, read straight from document 01, with document 02's requests b, e and f.
+"""The rules of the dryer archive, read straight from document 01, with document 02's requests b, d, e and f.
 
 A model for tests: plain Python over whole numbers and bytes, written apart from the proved code and
-sharing nothing with it. Refusals carry the documents' numbers.
+sharing nothing with it. Refusals carry the documents' numbers. Layout 2, which ends in a tag, is request d's;
+a tag key of no bytes is none.
 """
 
 import functools
 from collections import namedtuple
 
+import cmac
 import libcrypto
 
 PLATE = 20
 ENTRY = 16
+TAG = 16
 LONGEST_FILE = 65536
 MOST_JOBS = 64
 
@@ -62,27 +65,33 @@ def key_check(key):
     return libcrypto.forward(key, b"\xff" * 16)[:8]
 
 
-def check(key, file):
-    """The count of jobs. Refusals 1 and 5 to 17."""
+def check(key, tag_key, file):
+    """The count of jobs. Refusals 1, 5 to 17, 24 and 25."""
     refuse_if(len(key) not in (16, 24, 32), 1)
+    refuse_if(len(tag_key) not in (0, 16, 24, 32), 1)
     refuse_if(len(file) < PLATE, 5)
     refuse_if(len(file) > LONGEST_FILE, 6)
-    refuse_if(file[0] != 1, 7)
+    layout = file[0]
+    refuse_if(layout not in (1, 2), 7)
+    refuse_if((layout == 1 and len(tag_key) > 0) or (layout == 2 and len(tag_key) == 0), 24)
     refuse_if(file[1] != len(key), 8)
     count = number_at(file, 2, 2)
     refuse_if(count > MOST_JOBS, 9)
     refuse_if(number_at(file, 16, 4) != len(file), 10)
-    end = PLATE + ENTRY * count
-    refuse_if(end > len(file), 11)
+    refuse_if((20 if layout == 1 else 36) + ENTRY * count > len(file), 11)
     refuse_if(file[8:16] != key_check(key), 12)
+    # where the bodies have to end: at the file's end, or at the tag
+    bodies_end = len(file) if layout == 1 else len(file) - TAG
+    end = PLATE + ENTRY * count
     for index in range(count):
         entry = entry_at(file, index)
         refuse_if(not all_digits(entry.digits), 13)
         refuse_if(index > 0 and place(entry.digits) <= place(entry_at(file, index - 1).digits), 14)
         refuse_if(entry.start != end, 15)
         end = entry.start + entry.length
-        refuse_if(end > len(file), 16)
-    refuse_if(end != len(file), 17)
+        refuse_if(end > bodies_end, 16)
+    refuse_if(end != bodies_end, 17)
+    refuse_if(layout == 2 and file[bodies_end:] != cmac.tag(tag_key, file[:bodies_end]), 25)
     return count
 
 
@@ -96,10 +105,10 @@ def search(contents, number):
     raise Refused(19)
 
 
-def find(key, file, number):
+def find(key, tag_key, file, number):
     """The index of the job's entry. Refusals of `check`, then 18 and 19. Only an entry that bears the number ends
     this search, as in document 01: an early end must not show."""
-    count = check(key, file)
+    count = check(key, tag_key, file)
     refuse_if(len(number) != 8 or not all_digits(number), 18)
     for index in range(count):
         if entry_at(file, index).digits == number:
@@ -122,47 +131,49 @@ def exclusive_or(a, b):
 
 
 @functools.lru_cache(maxsize=256)
-def plain_bytes(key, file, number):
+def plain_bytes(key, tag_key, file, number):
     """The job's plain bytes, all of them. Refusals of `find`."""
-    entry = entry_at(file, find(key, file, number))
+    entry = entry_at(file, find(key, tag_key, file, number))
     body = file[entry.start : entry.start + entry.length]
     return exclusive_or(body, keystream(key, number_at(file, 4, 4), entry.digits, entry.length))
 
 
-def open_job(key, file, number, room=LONGEST_FILE):
+def open_job(key, tag_key, file, number, room=LONGEST_FILE):
     """The job's plain bytes. Refusals of `find`, then 20 where a buffer of `room` bytes is too short."""
-    plain = plain_bytes(key, file, number)
+    plain = plain_bytes(key, tag_key, file, number)
     refuse_if(room < len(plain), 20)
     return plain
 
 
-def open_range(key, file, number, first, count, room=LONGEST_FILE):
+def open_range(key, tag_key, file, number, first, count, room=LONGEST_FILE):
     """`count` of the job's plain bytes, from byte `first` on. Refusals of `find`, then 26 where the range passes the
     job's end, then 20 where a buffer of `room` bytes is too short for the range."""
-    plain = plain_bytes(key, file, number)
+    plain = plain_bytes(key, tag_key, file, number)
     refuse_if(first + count > len(plain), 26)
     refuse_if(room < count, 20)
     return plain[first : first + count]
 
 
-def opened(key, file, number, bounds=(), room=LONGEST_FILE):
+def opened(key, tag_key, file, number, bounds=(), room=LONGEST_FILE):
     """What opening gives of a range, by a first byte and a count, or of the whole job where there are none."""
-    return open_range(key, file, number, *bounds, room) if bounds else open_job(key, file, number, room)
+    if bounds:
+        return open_range(key, tag_key, file, number, *bounds, room)
+    return open_job(key, tag_key, file, number, room)
 
 
-def opened_into(key, file, number, bounds, buffer):
+def opened_into(key, tag_key, file, number, bounds, buffer):
     """The refusal of opening into a buffer or 0, how many bytes it counts, and what the buffer holds then."""
     try:
-        plain = opened(key, file, number, bounds, len(buffer))
+        plain = opened(key, tag_key, file, number, bounds, len(buffer))
     except Refused as refused:
         return refused.number, 0, buffer
     return 0, len(plain), plain + buffer[len(plain) :]
 
 
-def jobs_text(key, file):
+def jobs_text(key, tag_key, file):
     """What the program `jobs` prints."""
     try:
-        count = check(key, file)
+        count = check(key, tag_key, file)
     except Refused as refused:
         return b"refused %d\n" % refused.number
     lines = [b"jobs %d\n" % count]
@@ -172,10 +183,10 @@ def jobs_text(key, file):
     return b"".join(lines)
 
 
-def open_output(key, file, number, *words):
+def open_output(key, tag_key, file, number, *words):
     """What the program `open` writes, standard output and standard error, of a number and of the words of a range: none,
     or a first byte and a count in decimal."""
     try:
-        return opened(key, file, number, tuple(map(int, words))), b""
+        return opened(key, tag_key, file, number, tuple(map(int, words))), b""
     except Refused as refused:
         return b"", b"refused %d\n" % refused.number

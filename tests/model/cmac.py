@@ -6,6 +6,8 @@
 The self-test holds it to the examples that the standard publishes, which are with AES, and with ARIA to libcrypto's own CMAC.
 """
 
+import functools
+
 import libcrypto
 
 BLOCK = 16
@@ -40,6 +42,7 @@ def mac(forward, message):
     return chain
 
 
+@functools.lru_cache(maxsize=4096)  # one archive is looked at by many calls
 def tag(key, message):
     return mac(lambda block: libcrypto.forward(key, block), message)
 

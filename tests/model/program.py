@@ -1,4 +1,4 @@
-"""Runs a program on a key file and an archive, and gives what it wrote."""
+"""Runs a program on a key file, a tag file and an archive, and gives what it wrote."""
 
 import os
 import shutil
@@ -42,17 +42,18 @@ class Program:
     def __exit__(self, *_):
         self.close()
 
-    def _place(self, key):
-        """Puts key.bin there: these bytes, or none where `key` is None."""
-        place = os.path.join(self.folder, "key.bin")
+    def _place(self, name, data):
+        """Puts a file there: these bytes, or no file where they are None."""
+        place = os.path.join(self.folder, name)
         if os.path.exists(place):
             os.remove(place)
-        if key is not None:
+        if data is not None:
             with open(place, "wb") as file:
-                file.write(key)
+                file.write(data)
 
-    def _start(self, key, command, stdin):
-        self._place(key)
+    def _start(self, key, tag_key, command, stdin):
+        self._place("key.bin", key)
+        self._place("tag.bin", tag_key)
         return subprocess.Popen(
             command,
             cwd=self.folder,
@@ -61,16 +62,16 @@ class Program:
             stderr=subprocess.PIPE,
         )
 
-    def from_file(self, key, archive, arguments=()):
+    def from_file(self, key, tag_key, archive, arguments=()):
         """With the archive as a file on standard input."""
         with tempfile.TemporaryFile(dir=self.folder) as file:
             file.write(archive)
             file.seek(0)
-            return finished(self._start(key, [self.path, *arguments], file))
+            return finished(self._start(key, tag_key, [self.path, *arguments], file))
 
-    def from_pipe(self, key, archive, piece, arguments=(), pause=0.001):
+    def from_pipe(self, key, tag_key, archive, piece, arguments=(), pause=0.001):
         """With the archive through a pipe, in pieces of so many bytes and a pause between them."""
-        process = self._start(key, [self.path, *arguments], subprocess.PIPE)
+        process = self._start(key, tag_key, [self.path, *arguments], subprocess.PIPE)
         # a program that neither reads on nor ends would leave the pipe full
         limit = threading.Timer(SECONDS, process.kill)
         limit.start()

@@ -1,11 +1,12 @@
-"""Holds the opening of whole jobs and of ranges, and counter mode from any first byte on, to the model, call by call.
+"""Holds the check of archives, the opening of jobs and ranges, and counter mode from any first byte on, to the model, call by call.
 
     python3 tests/model/ranges.py [target/staticlib/libbenchlib.a]
 
 The calls are those that `rt staticlib benchlib` exports; a shared library is made of it, and called in this process. Of each call the
 number is compared, every byte of the buffer, and bytes before and behind it, which nobody lent; the buffers begin at every place in
-memory modulo 16. How many bytes an opening counts these calls do not tell; the program `open` and `known_answers` show it. The last line
-is `archive ranges: N calls agree`, or the first call that differs, and then the exit status is 1.
+memory modulo 16. How many bytes an opening counts these calls do not tell; the program `open` and `known_answers` show it. A tagged
+archive is checked with each of its bytes changed to each other value, and with each cut. The last line is `archive ranges: N calls agree`,
+or the first call that differs, and then the exit status is 1.
 """
 
 import ctypes
@@ -30,6 +31,8 @@ FILL = b"\xa5"
 BESIDE = 32
 # Longer than three chunks, and of no whole number of blocks.
 LENGTH = 3 * CHUNK + 37
+# Keys with tag keys of another length.
+KEY_PAIRS = [(cases.KEYS[key], cases.TAG_KEYS[tag_key]) for key, tag_key in ((16, 24), (24, 32), (32, 16))]
 # First bytes and counts about powers of 2; 2^36 bytes are 2^32 blocks.
 HUGE = [2**k + d for k in (31, 32, 33, 36, 60, 63, 64) for d in (-17, -16, -1, 0, 1, 16) if 2**k + d < 2**64]
 
@@ -45,9 +48,9 @@ class Library:
         part, size = [ctypes.c_char_p, ctypes.c_size_t], ctypes.c_size_t
         lent = [ctypes.c_void_p, ctypes.c_size_t]
         arguments = {
-            "bench_check": 2 * part,
-            "bench_open": 3 * part + lent,
-            "bench_open_range": 3 * part + [size, size] + lent,
+            "bench_check": 3 * part,
+            "bench_open": 4 * part + lent,
+            "bench_open_range": 4 * part + [size, size] + lent,
             "bench_ctr": 2 * part + [size] + lent,
         }
         for name, types in arguments.items():
@@ -68,11 +71,11 @@ class Library:
 
     def opened(self, case, number, bounds, room):
         name = "bench_open_range" if bounds else "bench_open"
-        return self.lend(name, (*sized(case.key, case.file, number), *bounds), FILL * room)
+        return self.lend(name, (*sized(*case.lent(), number), *bounds), FILL * room)
 
     def checked(self, case):
         self.calls += 1
-        return self.library.bench_check(*sized(case.key, case.file))
+        return self.library.bench_check(*sized(*case.lent()))
 
     def streamed(self, key, prefix, first, run):
         return self.lend("bench_ctr", (*sized(key, prefix), first), run)
@@ -82,26 +85,34 @@ def sized(*slices):
     return [argument for each in slices for argument in (each, len(each))]
 
 
+def refusal_of(case):
+    try:
+        archive.check(*case.lent())
+    except archive.Refused as refused:
+        return refused.number
+    return 0
+
+
 def expected(case, number, bounds, room):
     """The same by the model: the refusal or 0, and the buffer."""
-    refusal, _, buffer = archive.opened_into(case.key, case.file, number, bounds, FILL * room)
+    refusal, _, buffer = archive.opened_into(*case.lent(), number, bounds, FILL * room)
     return refusal, buffer
 
 
 # ---- openings
 
 
-def long_ranges():
-    """Ranges of the long job, as first byte and count."""
+def long_ranges(step):
+    """Ranges of the long job, as first byte and count; of the places of a chunk only every so many."""
     # every start and every end within three blocks
     yield from ((first, count) for first in range(48) for count in range(49))
     # a start at every place of a chunk, with ends about those of blocks, of chunks and of the job
-    for first in range(CHUNK + 1):
+    for first in range(0, CHUNK + 1, step):
         for end in (first, first + 1, first + 16, CHUNK, CHUNK + 1, 2 * CHUNK - 1, LENGTH):
             if end >= first:
                 yield first, end - first
     # an end at every place of a chunk, from starts about the borders of blocks and chunks
-    for end in range(CHUNK, 2 * CHUNK + 1):
+    for end in range(CHUNK, 2 * CHUNK + 1, step):
         yield from ((first, end - first) for first in (0, 1, 15, 16, 17, CHUNK - 1, CHUNK))
     # about the job's end: up to it, of no bytes at it, and past it
     for first in range(LENGTH - 40, LENGTH + 4):
@@ -123,9 +134,11 @@ def rooms():
 
 def openings():
     """Each call: the case, the job number, the range or none for the whole job, and the buffer's length."""
-    for key in cases.KEYS.values():
-        case = cases.long_job(key, LENGTH)
-        for first, count in long_ranges():
+    # a tagged archive is gone through whole in each call
+    long_jobs = [(cases.long_job(key, LENGTH), 1) for key in cases.KEYS.values()]
+    long_jobs += [(cases.long_job(key, LENGTH, tag_key), 61) for key, tag_key in KEY_PAIRS]
+    for case, step in long_jobs:
+        for first, count in long_ranges(step):
             yield case, b"24000017", (first, count), min(count, LENGTH) + 3
         for first, count, room in rooms():
             yield case, b"24000017", (first, count), room
@@ -136,6 +149,11 @@ def openings():
             for bounds in ((), (0, 0), (0, 1), (0, 13), (1, 12), (1, 13), (13, 0), (14, 0), (2**64 - 1, 1), (9, 2**64 - 1)):
                 for room in (0, 1, 12, 13):
                     yield case, number, bounds, room
+    # a wrong tag comes before all that is wrong with what is asked
+    for number in (b"24000017", b"24000019", b"24000020", b"2400001"):
+        for bounds in ((), (0, 0), (0, 20), (0, 21), (2**64 - 1, 1)):
+            for room in (0, 1, 20, 40):
+                yield cases.wrong_tag(), number, bounds, room
     # every archive of the model that is shorter than a chunk, or too long: where it is refused, with its own number, whatever is asked
     for case in cases.made():
         if case.key is not None and (len(case.file) < CHUNK or case.refusal == 6):
@@ -143,6 +161,28 @@ def openings():
                 for bounds in ((), (0, 3), (2, 2), (6, 0), (2**64 - 1, 1)):
                     for room in (0, 1, 40):
                         yield case, number, bounds, room
+
+
+# ---- changed bytes and cuts
+
+
+def every_value(file, at, key, tag_key):
+    """The file with one byte changed to each other value."""
+    for value in set(range(256)) - {file[at]}:
+        name = "byte %d set to %02x, %d bytes of tag key" % (at, value, len(tag_key))
+        yield cases.Case(name, key, cases.byte_set(file, at, value), None, tag_key)
+
+
+def altered():
+    """Tagged archives with one byte changed, to every other value, and with a cut at every place; and archives of both layouts with
+    every other layout byte, under no tag key. None of them is good."""
+    for key, tag_key in KEY_PAIRS:
+        tagged, plain = cases.changed_jobs(key, tag_key), cases.changed_jobs(key)
+        for at in range(len(tagged.file())):
+            yield from every_value(tagged.file(), at, key, tag_key)
+        yield from cases.cuts(tagged)
+        yield from every_value(tagged.file(), 0, key, b"")
+        yield from every_value(plain.file(), 0, key, b"")
 
 
 # ---- counter mode
@@ -195,6 +235,11 @@ def main():
         for case in cases.made():
             if case.key is not None:
                 compare("the check of %s" % case.name, (library.checked(case), b""), (case.refusal, b""))
+        for case in altered():
+            wanted = refusal_of(case)
+            if wanted == 0:
+                sys.exit("archive ranges: %s: the model accepts it" % case.name)
+            compare("the check of %s" % case.name, (library.checked(case), b""), (wanted, b""))
         for case, number, bounds, room in openings():
             wanted = expected(case, number, bounds, room)
             what = "%s, job %r, range %s, %d bytes of room" % (case.name, number, bounds, room)
@@ -204,7 +249,7 @@ def main():
             what = "counter mode, key of %d bytes, first byte %d, %d bytes" % (len(key), first, len(run))
             compare(what, library.streamed(key, prefix, first, run), streamed(key, prefix, first, run))
     faulthandler.cancel_dump_traceback_later()
-    if met != {0, 1} | set(range(5, 21)) | {26}:
+    if met != {0, 1} | set(range(5, 21)) | {24, 25, 26}:
         sys.exit("archive ranges: of the refusals only %s were met" % sorted(met))
     print("archive ranges: %d calls agree" % library.calls)
 

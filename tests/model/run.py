@@ -41,6 +41,7 @@ class Comparison:
         if self.differed <= SHOWN:
             print("DIFFERS %s: %s" % (name, case.name))
             print("  key      %s" % ("none" if case.key is None else case.key[:64].hex()))
+            print("  tag key  %s" % ("none" if case.tag_key is None else case.tag_key[:64].hex()))
             print("  archive  %s (%d bytes)" % (case.file[:120].hex(), len(case.file)))
             print("  expected %s" % (shown(expected),))
             print("  written  %s" % (shown(written),))
@@ -55,18 +56,18 @@ def shown(written):
 
 
 def expected_of_jobs(case):
-    return Written(archive.jobs_text(case.key or b"", case.file), b"", 0)
+    return Written(archive.jobs_text(*case.lent()), b"", 0)
 
 
 def expected_of_open(case, words):
-    return Written(*archive.open_output(case.key or b"", case.file, *words), 0)
+    return Written(*archive.open_output(*case.lent(), *words), 0)
 
 
 def in_turn(program, turn, case, arguments=()):
     """From a file and through a pipe by turns, so that both are met by every kind of case."""
     if turn % 2:
-        return program.from_pipe(case.key, case.file, max(1, len(case.file)), arguments, pause=0)
-    return program.from_file(case.key, case.file, arguments)
+        return program.from_pipe(case.key, case.tag_key, case.file, max(1, len(case.file)), arguments, pause=0)
+    return program.from_file(case.key, case.tag_key, case.file, arguments)
 
 
 SLOW = [
@@ -75,11 +76,13 @@ SLOW = [
     (cases.sample().case("sample", 0), 7),
     (cases.three_jobs().case("three jobs", 0), 16),
     (cases.Draft(cases.KEYS[32], 7, cases.numbered(range(64))).case("64 jobs", 0), 97),
-    (cases.Draft(cases.KEYS[24], 7, cases.numbered([65500])).case("65,536 bytes", 0), 1021),
+    (cases.full(None, cases.KEYS[24]).case("65,536 bytes", 0), 1021),
     (cases.Draft(cases.KEYS[16], 7, cases.numbered([65501])).case("65,537 bytes", 6), 1021),
     (cases.Draft(cases.KEYS[16], 7, cases.numbered([65501])).case("65,537 bytes", 6), 65536),
     (cases.Draft(cases.KEYS[16], 7, cases.numbered([200000])).case("200,036 bytes", 6), 8192),
     (cases.Case("19 bytes", cases.KEYS[16], bytes(19), 5), 3),
+    (cases.sample(cases.TAG_KEYS[32]).case("sample, tagged", 0), 1),
+    (cases.full(cases.TAG_KEY).case("65,536 bytes, tagged", 0), 1021),
 ]
 
 
@@ -89,7 +92,7 @@ def run_jobs(path, all_cases, comparison):
             written = in_turn(program, turn, case)
             comparison.note("jobs", case, expected_of_jobs(case), written)
         for case, piece in SLOW:
-            written = program.from_pipe(case.key, case.file, piece)
+            written = program.from_pipe(case.key, case.tag_key, case.file, piece)
             comparison.note("jobs, slow pipe", case, expected_of_jobs(case), written)
 
 
@@ -103,7 +106,7 @@ def words_to_ask(case, turn):
     An archive that is refused is refused whatever is asked: a number, or by turns what is none, whole or by turns a range.
     """
     try:
-        count = archive.check(case.key or b"", case.file)
+        count = archive.check(*case.lent())
     except archive.Refused:
         number = b"2400001" if turn // 2 % 2 else b"24000017"
         return [(number, *decimal(2, 2)) if turn // 4 % 2 else (number,)]
@@ -119,8 +122,9 @@ def words_to_ask(case, turn):
 
 
 def questions():
-    """Numbers that are none (18) or absent (19), on a good archive and on one that is refused itself;
-    every job of a full one; and every job of one whose numbers lie apart, with the numbers beside it."""
+    """Numbers that are none (18) or absent (19), on a good archive and on one that is refused itself, and some of them
+    beside a tag, right or wrong; every job of a full one; and every job of one whose numbers lie apart, with the
+    numbers beside it."""
     good = cases.three_jobs()
     refused = cases.three_jobs()
     refused.tail = b"\0"
@@ -135,6 +139,9 @@ def questions():
     for number in dict.fromkeys(numbers + absent):
         yield good.case("three jobs", 0), number
         yield refused.case("three jobs and a byte", 17), number
+    for number in [b"", b"2400001", b"240000170", b"2400001/", b"2" * 5000] + absent:
+        yield cases.three_jobs(cases.TAG_KEY).case("three jobs, tagged", 0), number
+        yield cases.wrong_tag(), number
     many = cases.Draft(cases.KEYS[24], 7, cases.numbered(range(64)))
     for number, _, _ in many.entries:
         yield many.case("64 jobs", 0), number
@@ -150,7 +157,8 @@ def questions():
 
 def range_questions():
     """Ranges: all of three short jobs, one of no bytes, to past their ends; of a long one, about the borders of blocks, of chunks and its
-    end, with large numbers and leading zeros; of a number that is none, of one that is not there, of an archive that is refused."""
+    end, with large numbers and leading zeros; of a number that is none, of one that is not there, of an archive that is refused; some of
+    them where there is a tag, right or wrong."""
     short = cases.three_jobs().case("three jobs", 0)
     for number, _, length in cases.three_jobs().entries:
         for first in range(length + 3):
@@ -174,6 +182,11 @@ def range_questions():
         for number in (b"24000016", b"2400001", b"24000017"):
             yield short, (number, *decimal(first, count))
             yield refused.case("three jobs and a byte", 17), (number, *decimal(first, count))
+            yield cases.three_jobs(cases.TAG_KEY).case("three jobs, tagged", 0), (number, *decimal(first, count))
+            yield cases.wrong_tag(), (number, *decimal(first, count))
+    tagged = cases.long_job(cases.KEYS[32], 60000, cases.TAG_KEYS[16])
+    for first, count in ((0, 60000), (1, 59999), (4095, 2), (4096, 4096), (59984, 16), (59985, 16), (60000, 0), (60000, 1)):
+        yield tagged, (b"24000017", *decimal(first, count))
 
 
 def asked_of_open(all_cases):
@@ -198,7 +211,7 @@ def run_open(path, all_cases, comparison):
             written = in_turn(program, turn, case, words)
             comparison.note("open %s" % (tuple(word[:40] for word in words),), case, expected_of_open(case, words), written)
         for case, piece, words in asked_slowly():
-            written = program.from_pipe(case.key, case.file, piece, words)
+            written = program.from_pipe(case.key, case.tag_key, case.file, piece, words)
             comparison.note("open %s, slow pipe" % (words,), case, expected_of_open(case, words), written)
 
 
@@ -215,7 +228,7 @@ def main():
 
     seed = random.SystemRandom().randrange(2**32) if options.seed is None else options.seed
     print("archive model: repeat with --seed %d" % seed, flush=True)
-    all_cases = [*cases.made(), *cases.changes(), *cases.random_changes(seed, RANDOM_CASES)]
+    all_cases = [*cases.made(), *cases.changes(), *cases.tagged_changes(), *cases.random_changes(seed, RANDOM_CASES)]
 
     comparison = Comparison()
     run_jobs(options.jobs, all_cases, comparison)

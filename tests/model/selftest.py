@@ -28,11 +28,11 @@ def refusal(call, *arguments):
     return value if kind == "refused" else 0
 
 
-def plain_refusal(key, file):
+def plain_refusal(case):
     """The refusal where case 14 goes by the plain number, as in document 01 alone."""
     place, archive.place = archive.place, lambda number: int(number)
     try:
-        return refusal(archive.check, key, file)
+        return refusal(archive.check, *case.lent())
     finally:
         archive.place = place
 
@@ -62,18 +62,19 @@ class Readings(unittest.TestCase):
 
     def test_sizes(self):
         key = cases.KEYS[16]
-        self.assertEqual(refusal(archive.check, key, bytes([2] * 19)), 5)
-        self.assertEqual(refusal(archive.check, key, bytes([2] * 20)), 7)
-        self.assertEqual(refusal(archive.check, key, bytes(65537)), 6)
+        self.assertEqual(refusal(archive.check, key, b"", bytes([2] * 19)), 5)
+        self.assertEqual(refusal(archive.check, key, b"", bytes([3] * 20)), 7)
+        self.assertEqual(refusal(archive.check, key, b"", bytes([2] * 20)), 24)  # 7 before document 02, d
+        self.assertEqual(refusal(archive.check, key, b"", bytes(65537)), 6)
         for count, number in ((64, 0), (65, 9)):
             file = cases.Draft(key, 7, cases.numbered([0] * count)).file()
-            self.assertEqual(refusal(archive.check, key, file), number)
+            self.assertEqual(refusal(archive.check, key, b"", file), number)
 
     def test_jobs_text(self):
         sample = cases.sample()
         text = b"jobs 2\n24000017 52 5\n24000018 57 0\n"
-        self.assertEqual(archive.jobs_text(sample.key, sample.file()), text)
-        self.assertEqual(archive.jobs_text(sample.key, b""), b"refused 5\n")
+        self.assertEqual(archive.jobs_text(sample.key, b"", sample.file()), text)
+        self.assertEqual(archive.jobs_text(sample.key, b"", b""), b"refused 5\n")
 
 
 class Years(unittest.TestCase):
@@ -90,8 +91,8 @@ class Years(unittest.TestCase):
         """By the plain number; and a mixed archive in plain order, accepted so, gets 14."""
         judged = {"the same": 0, "mixed": 0}
         for case in cases.made():
-            now = refusal(archive.check, case.key or b"", case.file)
-            before = plain_refusal(case.key or b"", case.file)
+            now = refusal(archive.check, *case.lent())
+            before = plain_refusal(case)
             count = archive.number_at(case.file, 2, 2)
             numbers = [archive.entry_at(case.file, index).digits for index in range(count if count <= 64 else 0)]
             spans = {number >= b"70" for number in numbers if len(number) == 8 and archive.all_digits(number)}
@@ -109,10 +110,10 @@ class Cases(unittest.TestCase):
     def test_each_case_has_the_answer_it_was_made_for(self):
         met = set()
         for case in cases.made():
-            number = refusal(archive.check, case.key or b"", case.file)
+            number = refusal(archive.check, *case.lent())
             self.assertEqual(number, case.refusal, case.name)
             met.add(number)
-        self.assertEqual(met, {0, 1} | set(range(5, 18)))
+        self.assertEqual(met, {0, 1, 24, 25} | set(range(5, 18)))
 
     def test_names_are_distinct(self):
         names = [case.name for case in cases.made()]
@@ -125,8 +126,8 @@ class Opening(unittest.TestCase):
             jobs = cases.numbered([0, 1, 15, 16, 17, 100, 4096])
             file = cases.Draft(key, 0xFFFFFFFF, jobs).file()
             for index, (number, plain) in enumerate(jobs):
-                self.assertEqual(archive.find(key, file, number), index)
-                self.assertEqual(archive.open_job(key, file, number), plain)
+                self.assertEqual(archive.find(key, b"", file, number), index)
+                self.assertEqual(archive.open_job(key, b"", file, number), plain)
                 entry = archive.entry_at(file, index)
                 body = file[entry.start : entry.start + entry.length]
                 first = archive.counter_block(0xFFFFFFFF, number, 0)
@@ -136,13 +137,13 @@ class Opening(unittest.TestCase):
         sample = cases.sample()
         key, file = sample.key, sample.file()
         for number in (b"", b"2400001", b"240000170", b"2400001/", b":4000017"):
-            self.assertEqual(refusal(archive.open_job, key, file, number), 18)
-            self.assertEqual(refusal(archive.open_job, key, file[:-1], number), 10)
-        self.assertEqual(refusal(archive.open_job, key, file, b"24000016"), 19)
-        self.assertEqual(refusal(archive.open_job, key, file, b"24000016", 0), 19)
-        self.assertEqual(refusal(archive.open_job, key, file, b"24000017", 4), 20)
-        self.assertEqual(refusal(archive.open_job, key, file, b"24000017", 5), 0)
-        self.assertEqual(refusal(archive.open_job, key, file, b"24000018", 0), 0)
+            self.assertEqual(refusal(archive.open_job, key, b"", file, number), 18)
+            self.assertEqual(refusal(archive.open_job, key, b"", file[:-1], number), 10)
+        self.assertEqual(refusal(archive.open_job, key, b"", file, b"24000016"), 19)
+        self.assertEqual(refusal(archive.open_job, key, b"", file, b"24000016", 0), 19)
+        self.assertEqual(refusal(archive.open_job, key, b"", file, b"24000017", 4), 20)
+        self.assertEqual(refusal(archive.open_job, key, b"", file, b"24000017", 5), 0)
+        self.assertEqual(refusal(archive.open_job, key, b"", file, b"24000018", 0), 0)
 
 
 class Ranges(unittest.TestCase):
@@ -159,7 +160,7 @@ class Ranges(unittest.TestCase):
                     block = archive.counter_block(0x01020304, entry.digits, first // 16)
                     skipped = first % 16
                     plain = libcrypto.counter(key, block, bytes(skipped) + body[first : first + count])[skipped:]
-                    self.assertEqual(archive.open_range(key, file, entry.digits, first, count), plain)
+                    self.assertEqual(archive.open_range(key, b"", file, entry.digits, first, count), plain)
 
     def test_refusals_and_their_order(self):
         sample = cases.sample()
@@ -179,22 +180,121 @@ class Ranges(unittest.TestCase):
             (b"24000019", 9, 9, 0, 19),
             (b"2400001", 9, 9, 0, 18),
         ):
-            self.assertEqual(refusal(archive.open_range, key, file, number, first, count, room), wanted)
-            self.assertEqual(refusal(archive.open_range, key, file[:-1], number, first, count, room), 10)
+            self.assertEqual(refusal(archive.open_range, key, b"", file, number, first, count, room), wanted)
+            self.assertEqual(refusal(archive.open_range, key, b"", file[:-1], number, first, count, room), 10)
+
+
+class Tagged(unittest.TestCase):
+    """Document 02, d."""
+
+    KEY, TAG_KEY = bytes(range(16)), bytes(range(0x10, 0x30))
+    # worked by hand from the sample of layout 1: the layout, the whole length, and a tag behind it
+    FRONT = bytes.fromhex(
+        "02 10 0002 00000007 685c678e545d7b37 00000049"
+        "3234303030303137 00000034 00000005"
+        "3234303030303138 00000039 00000000"
+        "71a8932aa6"
+    )
+    TAG = bytes.fromhex("1be9d398b9c7663e4ec34511c434e387")
+    FILE = FRONT + TAG
+
+    def with_bytes(self, at, part, length=None):
+        """The archive with other bytes at a place, cut or filled up to a length if one is given, and tagged anew."""
+        part = bytes.fromhex(part)
+        front = self.FRONT[:at] + part + self.FRONT[at + len(part) :]
+        front = front if length is None else front[: length - 16].ljust(length - 16, b"\0")
+        return front + libcrypto.cmac(self.TAG_KEY, front)
+
+    def test_a_small_archive(self):
+        self.assertEqual(len(self.FILE), 73)
+        self.assertEqual(libcrypto.cmac(self.TAG_KEY, self.FRONT), self.TAG)
+        self.assertEqual(cmac.tag(self.TAG_KEY, self.FRONT), self.TAG)
+        self.assertEqual(cases.sample(self.TAG_KEY).file(), self.FILE)
+        plain = cases.sample().file()
+        self.assertEqual(self.FRONT[1:16] + self.FRONT[20:], plain[1:16] + plain[20:])
+        text = b"jobs 2\n24000017 52 5\n24000018 57 0\n"
+        self.assertEqual(archive.jobs_text(self.KEY, self.TAG_KEY, self.FILE), text)
+        self.assertEqual(archive.open_job(self.KEY, self.TAG_KEY, self.FILE, b"24000017"), b"dried")
+        self.assertEqual(archive.open_range(self.KEY, self.TAG_KEY, self.FILE, b"24000017", 1, 3), b"rie")
+
+    def test_each_refusal(self):
+        right = (self.KEY, self.TAG_KEY)
+        for (key, tag_key), file, wanted in (
+            (right, self.FILE, 0),
+            ((self.KEY[:15], self.TAG_KEY), self.FILE, 1),
+            ((self.KEY, self.TAG_KEY[:31]), self.FILE, 1),
+            ((self.KEY, self.TAG_KEY + b"\0"), b"", 1),
+            (right, self.FILE[:19], 5),
+            (right, self.FILE + bytes(65537 - 73), 6),
+            (right, self.with_bytes(0, "03"), 7),
+            ((self.KEY, b""), self.with_bytes(0, "03"), 7),
+            ((self.KEY, b""), self.FILE, 24),
+            (right, self.with_bytes(0, "01"), 24),
+            (right, self.with_bytes(1, "18"), 8),
+            (right, self.with_bytes(2, "0041"), 9),
+            (right, self.with_bytes(16, "00000039"), 10),
+            (right, self.with_bytes(16, "00000043", 67), 11),
+            (right, self.with_bytes(16, "00000044", 68), 16),
+            (right, self.with_bytes(2, "0003"), 11),
+            (right, self.with_bytes(15, "38"), 12),
+            (right, self.with_bytes(20, "2f"), 13),
+            (right, self.with_bytes(43, "37"), 14),
+            (right, self.with_bytes(31, "35"), 15),
+            (right, self.with_bytes(48, "00000001"), 16),
+            (right, self.with_bytes(48, "00000010"), 16),
+            (right, self.with_bytes(16, "0000004a", 74), 17),
+            (right, self.FRONT + self.TAG[:15] + b"\x86", 25),
+            ((self.KEY, self.TAG_KEY[:16]), self.FILE, 25),
+            (right, self.FRONT + libcrypto.cmac(self.KEY, self.FRONT), 25),
+        ):
+            self.assertEqual(refusal(archive.check, key, tag_key, file), wanted, (wanted, file.hex()))
+            # and before all that opening tells
+            for number, first, count, room, told in (
+                (b"24000017", 0, 5, 5, 0),
+                (b"2400001", 9, 9, 0, 18),
+                (b"24000016", 9, 9, 0, 19),
+                (b"24000017", 5, 1, 0, 26),
+                (b"24000017", 0, 5, 4, 20),
+            ):
+                number_told = refusal(archive.open_range, key, tag_key, file, number, first, count, room)
+                self.assertEqual(number_told, wanted or told, (wanted, file.hex()))
+
+    def test_an_archive_without_jobs(self):
+        """36 bytes; with fewer, down to the plate's 20, tag and contents do not both fit."""
+        file = cases.Draft(self.KEY, 7, [], self.TAG_KEY).file()
+        self.assertEqual((len(file), archive.check(self.KEY, self.TAG_KEY, file)), (36, 0))
+        for length in range(20, 36):
+            short = cases.whole_length_set(file[:length])
+            self.assertEqual(refusal(archive.check, self.KEY, self.TAG_KEY, short), 11, length)
+
+    def test_every_change_is_refused(self):
+        for case in cases.tagged_changes():
+            self.assertNotEqual(refusal(archive.check, *case.lent()), 0, case.name)
+
+    def test_both_layouts_open_to_the_same(self):
+        for key in cases.KEYS.values():
+            jobs = cases.numbered([0, 1, 15, 16, 17, 100])
+            plain = cases.Draft(key, 7, jobs).file()
+            for tag_key in cases.TAG_KEYS.values():
+                tagged = cases.Draft(key, 7, jobs, tag_key).file()
+                self.assertEqual(archive.jobs_text(key, tag_key, tagged), archive.jobs_text(key, b"", plain))
+                for number, body in jobs:
+                    self.assertEqual(archive.open_job(key, tag_key, tagged, number), body)
 
 
 class Searching(unittest.TestCase):
     def test_archives_are_searched_as_in_full(self):
         seen = 0
         for case in cases.made():
-            if case.refusal:
+            # contents are the same in both layouts
+            if case.refusal or case.tag_key:
                 continue
-            count = archive.check(case.key, case.file)
+            count = archive.check(*case.lent())
             contents = case.file[archive.PLATE :][: archive.ENTRY * count]
             there = [archive.entry_at(case.file, index).digits for index in range(count)]
             beside = [b"%08d" % ((int(digits) + step) % 10**8) for digits in there for step in (-1, 1)]
             for number in [b"00000000", b"99999999"] + there + beside:
-                in_full = outcome(archive.find, case.key, case.file, number)
+                in_full = outcome(archive.find, *case.lent(), number)
                 self.assertEqual(outcome(archive.search, contents, number), in_full, case.name)
                 seen += 1
         self.assertGreater(seen, 100)

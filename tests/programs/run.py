@@ -2,9 +2,9 @@
 
     python3 tests/programs/run.py --jobs target/bin/jobs --open target/bin/open
 
-Each case runs a program on the sample archive in a folder of its own and compares standard output, standard error and the way it ended.
-Faults that a file cannot be made to have come from faults.c, which stands before the C library's read and write. The last line is a
-count, or says how many differ, and then the exit status is 1.
+Each case runs a program on a sample archive, of layout 1 unless its name says otherwise, in a folder of its own and compares standard
+output, standard error and the way it ended. Faults that a file cannot be made to have come from faults.c, which stands before the C
+library's open, read and write. The last line is a count, or says how many differ, and then the exit status is 1.
 """
 
 import argparse
@@ -22,6 +22,7 @@ from collections import namedtuple
 
 HERE = os.path.dirname(os.path.abspath(__file__))
 SAMPLE = os.path.join(HERE, "..", "..", "examples", "sample")
+TAGGED = os.path.join(HERE, "..", "..", "examples", "tagged")
 sys.path.insert(0, os.path.join(HERE, "..", "model"))
 
 from program import Written, finished  # noqa: E402
@@ -35,7 +36,8 @@ JOBS = Says(
     b"jobs 2\n24000017 52 5\n24000018 57 0\n",
     b"jobs: could not read\n",
     b"jobs: could not write\n",
-    b"usage: jobs < ARCHIVE\nlists the archive's jobs, under the key in key.bin of this folder\n",
+    b"usage: jobs < ARCHIVE\n"
+    b"lists the archive's jobs, under the key in key.bin of this folder and the tag key in tag.bin, if there is one\n",
 )
 OPEN = Says(
     "open",
@@ -44,14 +46,13 @@ OPEN = Says(
     b"open: could not read\n",
     b"open: could not write\n",
     b"usage: open NUMBER [FIRST COUNT] < ARCHIVE > PLAIN\n"
-    b"opens that job, eight digits, or COUNT bytes of it from byte FIRST on, counted from 0, under the key in key.bin of this folder\n",
+    b"opens that job, eight digits, or COUNT bytes of it from byte FIRST on, counted from 0, "
+    b"under key.bin and, if there, tag.bin\n",
 )
 # The same program, asked for a range.
 OPEN_RANGE = OPEN._replace(words=("24000017", "1", "3"), output=b"rie")
 PROGRAMS = [JOBS, OPEN, OPEN_RANGE]
 
-# The key file's descriptor: the first that is free.
-KEY_FILE = 3
 # How often a read that signals break off is tried.
 TRIES = 1000
 # How many seconds a terminal is waited for.
@@ -90,7 +91,7 @@ class Folder:
         environment = dict(os.environ, LC_ALL="C")
         if fault:
             # by a name without a folder's, which may have spaces
-            environment.update(LD_PRELOAD="./faults.so", FAULT="%s %d %d %d %d" % fault)
+            environment.update(LD_PRELOAD="./faults.so", FAULT="%s %s %d %d %d" % fault)
         with contextlib.ExitStack() as stack:
             if stdin is None:
                 stdin = stack.enter_context(open(self.file("archive.bin"), "rb"))
@@ -112,9 +113,10 @@ def at_terminal(f, words, typed):
 
 
 def unread(f, words):
-    """A program that opens the key, or reads the input, waits for what never comes."""
+    """A program that opens the key or the tag key, or reads the input, waits for what never comes."""
     os.remove(f.file("key.bin"))
-    os.mkfifo(f.file("key.bin"))
+    for name in ("key.bin", "tag.bin"):
+        os.mkfifo(f.file(name))
     reader, writer = os.pipe()
     try:
         return f.run(words, stdin=reader)
@@ -224,10 +226,10 @@ def key_files(says):
     """A key.bin that is missing is empty; one that cannot be read, or not to its end, is no key, even if what was read is one."""
     for after in (0, 15, 16):
         yield "key.bin error after %d bytes" % after, refused(says, 1), (
-            lambda f, after=after: f.run(says.words, fault=("read", KEY_FILE, after, errno.EIO, 1))
+            lambda f, after=after: f.run(says.words, fault=("read", "key.bin", after, errno.EIO, 1))
         )
         yield "key.bin broken off after %d bytes" % after, Written(says.output, b"", 0), (
-            lambda f, after=after: f.run(says.words, fault=("read", KEY_FILE, after, errno.EINTR, 1))
+            lambda f, after=after: f.run(says.words, fault=("read", "key.bin", after, errno.EINTR, 1))
         )
 
     def without(f):
@@ -252,7 +254,81 @@ def key_files(says):
     yield "no key.bin", refused(says, 1), without
     yield "key.bin without end", refused(says, 1), without_end
     yield "key.bin that cannot be opened", refused(says, 1), circular
+    yield "key.bin that may not be read", refused(says, 1), lambda f: f.run(says.words, fault=("open", "key.bin", 0, errno.EACCES, 1))
     yield "key.bin is a folder", refused(says, 1), folder
+
+
+def tag_files(says):
+    """A tag.bin that is missing or empty is no tag key. One that is there and cannot be read, or not to its end, or is too long, is a
+    bad one: so an archive of layout 1, which is read where there is no tag key, gets 1 as well."""
+    good = Written(says.output, b"", 0)
+    with open(os.path.join(TAGGED, "tag.bin"), "rb") as file:
+        right = file.read()
+
+    def on(layout, tag_file, fault=None, **input):
+        """On the sample of that layout, with a tag.bin of these bytes, or as a function makes it, or none."""
+
+        def run(f):
+            if layout == 2:
+                for name in ("archive.bin", "key.bin"):
+                    shutil.copy(os.path.join(TAGGED, name), f.path)
+            if callable(tag_file):
+                tag_file(f.file("tag.bin"))
+            elif tag_file is not None:
+                with open(f.file("tag.bin"), "wb") as file:
+                    file.write(tag_file)
+            return f.run(says.words, fault=fault, **input)
+
+        return run
+
+    def circular(path):
+        os.symlink("tag.bin", path)
+
+    def leads_nowhere(path):
+        os.symlink("no such file", path)
+
+    def without_end(path):
+        os.symlink("/dev/zero", path)
+
+    for name, tag_file, fault in (
+        ("no tag.bin", None, None),
+        ("empty tag.bin", b"", None),
+        ("tag.bin gone when it is opened", right, ("open", "tag.bin", 0, errno.ENOENT, 1)),
+    ):
+        yield "%s, layout 1" % name, good, on(1, tag_file, fault)
+        yield "%s, layout 2" % name, refused(says, 24), on(2, tag_file, fault)
+    for name, fault in (
+        ("tag.bin", None),
+        ("tag.bin in two pieces", ("read", "tag.bin", 16, 0, 1)),
+        ("tag.bin broken off once", ("read", "tag.bin", 16, errno.EINTR, 1)),
+        ("tag.bin broken off often", ("read", "tag.bin", 16, errno.EINTR, TRIES - 1)),
+    ):
+        yield "%s, layout 1" % name, refused(says, 24), on(1, right, fault)
+        yield "%s, layout 2" % name, good, on(2, right, fault)
+
+    bad = [
+        ("tag.bin is a folder", os.mkdir, None),
+        ("tag.bin that cannot be opened", circular, None),
+        ("tag.bin is a link that leads nowhere", leads_nowhere, None),
+        ("tag.bin without end", without_end, None),
+        ("empty tag.bin, error at once", b"", ("read", "tag.bin", 0, errno.EIO, 1)),
+        ("tag.bin broken off without end", right, ("read", "tag.bin", 16, errno.EINTR, TRIES)),
+    ]
+    # the first 32 bytes are the right tag key
+    for length in (33, 34, 48, 64, 4096, 65536, 10**6):
+        bad.append(("tag.bin of %d bytes" % length, right.ljust(length, b"\0"), None))
+    # what was read until then is nothing, or has a tag key's length, or is the right tag key
+    for after in (0, 1, 16, 24, 31, 32):
+        bad.append(("tag.bin error after %d bytes" % after, right, ("read", "tag.bin", after, errno.EIO, 1)))
+    for number in (errno.EACCES, errno.EINTR, errno.EIO, errno.EMFILE, errno.ENFILE, errno.ENOTDIR, errno.EPERM):
+        bad.append(("tag.bin not opened for %s" % errno.errorcode[number], right, ("open", "tag.bin", 0, number, 1)))
+    for name, tag_file, fault in bad:
+        for layout in (1, 2):
+            yield "%s, layout %d" % (name, layout), refused(says, 1), on(layout, tag_file, fault)
+    yield "tag.bin is a folder, and no archive", refused(says, 1), on(1, os.mkdir, stdin=subprocess.DEVNULL)
+    yield "tag.bin is a folder, and standard input fails", Written(b"", says.could_not_read, 0), (
+        on(1, os.mkdir, ("read", 0, 20, errno.EIO, 1))
+    )
 
 
 def terminals(says):
@@ -341,7 +417,7 @@ def words_of_ranges(says):
 def cases(says):
     """Each case of a program: its name, what is to be written, and how it is run in a folder."""
     words = {JOBS: words_of_jobs, OPEN: words_of_open, OPEN_RANGE: words_of_ranges}[says]
-    for group in (whole, writing, reading, key_files, terminals, words):
+    for group in (whole, writing, reading, key_files, tag_files, terminals, words):
         yield from group(says)
 
 

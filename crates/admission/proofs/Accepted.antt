@@ -21,7 +21,7 @@ use Rattle.header.proofs.Accepted.{HeaderGood, header-good, directory-length}
 use Rattle.directory.specs.Entries.{entries, entryAt, startOf, sizeOf}
 use Rattle.directory.specs.Check.{directoryCasesBy}
 use Rattle.directory.proofs.Accepted.{directory-within}
-use Rattle.admission.specs.Check.{keyCheck, tagBytes, wrongTagCases, fileCasesBy, taggedCasesBy, checkCasesBy}
+use Rattle.admission.specs.Check.{keyCheck, tagBytes, wrongTagCases, fileCasesBy, underKeyCasesBy, checkCasesBy}
 use Rattle.admission.proofs.Checking.{file-positive, wrong-tag-positive, check-directory}
 
 -- the tag of a file without case 25
@@ -36,13 +36,13 @@ unfolding wrongTagCases
 tag-passes tagKey file e = one-passes _ 25 (ap not (eq-same _ _ (sym e)))
 
 module _ (order : List ℕ → ℕ) (key tagKey file : List ℕ) (e : firstOf (checkCasesBy order key tagKey file) ≡ 0) where
-  key-stage : (firstOf (keyCases (length key)) ≡ 0) × (firstOf (taggedCasesBy order (scheduleOf key) (length key) tagKey file) ≡ 0)
+  key-stage : (firstOf (keyCases (length key)) ≡ 0) × (firstOf (underKeyCasesBy order (scheduleOf key) (length key) tagKey file) ≡ 0)
   unfolding checkCasesBy
   key-stage = first-none (keyCases (length key)) _ (key-positive (length key)) e
 
   tag-key-stage : (firstOf (tagKeyCases (length tagKey)) ≡ 0)
       × (firstOf (fileCasesBy order (layoutUnder tagKey) (scheduleOf key) (length key) file ++ wrongTagCases tagKey file) ≡ 0)
-  unfolding taggedCasesBy
+  unfolding underKeyCasesBy
   tag-key-stage = first-none (tagKeyCases (length tagKey)) _ (tag-key-positive (length tagKey)) (key-stage .1)
 
   tag-stage : (firstOf (fileCasesBy order (layoutUnder tagKey) (scheduleOf key) (length key) file) ≡ 0)

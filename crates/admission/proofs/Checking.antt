@@ -28,7 +28,7 @@ use Rattle.header.specs.Cases.{headerCases}
 use Rattle.header.proofs.Cases.{notOfHeader, header-positive, header-lacks}
 use Rattle.directory.specs.Check.{directoryCasesBy}
 use Rattle.directory.proofs.Cases.{notOfDirectory, directory-positive, directory-lacks}
-use Rattle.admission.specs.Check.{keyCheck, wrongTagCases, fileCasesBy, taggedCases, taggedCasesBy, checkCases, checkCasesBy}
+use Rattle.admission.specs.Check.{keyCheck, wrongTagCases, fileCasesBy, underKeyCases, underKeyCasesBy, checkCases, checkCasesBy}
 
 -- m is the number of no case of checking: computed where m is a numeral
 abbrev pub notOfCheck : ℕ → Bool
@@ -67,7 +67,7 @@ module _ (order : List ℕ → ℕ) (layout : ℕ) (s : Schedule) (keysize : ℕ
 
 module _ (order : List ℕ → ℕ) (key tagKey file : List ℕ) where
   pub check-positive : positive (checkCasesBy order key tagKey file) ≡ true
-  unfolding checkCasesBy taggedCasesBy
+  unfolding checkCasesBy underKeyCasesBy
   check-positive =
       positive-append (keyCases (length key)) _ (key-positive (length key))
       (positive-append (tagKeyCases (length tagKey)) _ (tag-key-positive (length tagKey))
@@ -75,7 +75,7 @@ module _ (order : List ℕ → ℕ) (key tagKey file : List ℕ) where
       (wrong-tag-positive tagKey file)))
 
   pub check-lacks : (m : ℕ) → notOfCheck m ≡ true → lacks m (checkCasesBy order key tagKey file) ≡ true
-  unfolding checkCasesBy taggedCasesBy
+  unfolding checkCasesBy underKeyCasesBy
   check-lacks m e =
       let h = both-true (not (eqb 1 m) && true) _ e in
       let g = both-true (notOfHeader m && notOfDirectory m) (not (eqb 25 m) && true) (h .1) in
@@ -89,7 +89,7 @@ module _ (order : List ℕ → ℕ) (key tagKey file : List ℕ) where
       → firstOf (headerCases (layoutUnder tagKey) (length key) (keyCheck (scheduleOf key)) file) ≡ 0
       → firstOf (checkCasesBy order key tagKey file)
       ≡ firstOf (directoryCasesBy order (directoryOf file) (directoryEnd file) (bodiesEnd file) ++ wrongTagCases tagKey file)
-  unfolding checkCasesBy taggedCasesBy fileCasesBy
+  unfolding checkCasesBy underKeyCasesBy fileCasesBy
   check-directory k t h =
       let header = headerCases (layoutUnder tagKey) (length key) (keyCheck (scheduleOf key)) file in
       let directory = directoryCasesBy order (directoryOf file) (directoryEnd file) (bodiesEnd file) in
@@ -109,10 +109,10 @@ module _ (key tagKey file : List ℕ) (p : Prepared) (r : Prepares key p) (n : �
       e ∙ r .number ∙ sym (first-stop (keyCases (length key)) _ (λ q. number-else (p .outcome) t (r .number ∙ q)))
 
   -- the key is good: tag key and file are asked
-  pub check-ready : p .outcome ≡ Ready → n ≡ firstOf (taggedCases (p .schedule) (length key) tagKey file)
+  pub check-ready : p .outcome ≡ Ready → n ≡ firstOf (underKeyCases (p .schedule) (length key) tagKey file)
       → n ≡ firstOf (checkCases key tagKey file)
   unfolding checkCasesBy
   check-ready o e =
       e
-      ∙ ap (λ (s : Schedule). firstOf (taggedCases s (length key) tagKey file)) (r .schedule)
+      ∙ ap (λ (s : Schedule). firstOf (underKeyCases s (length key) tagKey file)) (r .schedule)
       ∙ sym (first-pass (keyCases (length key)) _ (key-positive (length key)) (sym (r .number) ∙ ap number o))

@@ -21,7 +21,7 @@ use Rattle.header.proofs.Layouts.{tag-none}
 use Rattle.jobnumber.specs.Number.{orderOf}
 use Rattle.directory.specs.Check.{directoryCases}
 use Rattle.directory.proofs.Cases.{directory-positive}
-use Rattle.admission.specs.Check.{keyCheck, wrongTagCases, fileCasesBy, taggedCasesBy, checkCases, checkCasesBy}
+use Rattle.admission.specs.Check.{keyCheck, wrongTagCases, fileCasesBy, underKeyCasesBy, checkCases, checkCasesBy}
 use Rattle.admission.specs.Layout1.{layout1Cases, renumbered, Layout1Unchanged}
 use Rattle.admission.proofs.Checking.{check-positive}
 use Rattle.admission.proofs.Tags.{no-tag}
@@ -54,8 +54,8 @@ judged false false false l x y h = go (eqb l 1) refl (eqb l 2) refl
     go false p false q = rw (p, q)
 
 module _ (key file : List ℕ) where
-  -- the cases behind the layout's: those now, and those of layout 1
-  abbrev fields : ℕ → ℕ → ℕ
+  -- the cases behind the layout's, with the least length that 11 asks for, and what the directory and the tag come to
+  abbrev pub fields : ℕ → ℕ → ℕ
   fields least last =
       cond (not (eqb (keyLengthOf file) (length key))) 8
       (cond (ltb 64 (countOf file)) 9
@@ -63,7 +63,7 @@ module _ (key file : List ℕ) where
       (cond (ltb (length file) least) 11
       (cond (not (sameBytes (keyCheckOf file) (keyCheck (scheduleOf key)))) 12 last))))
 
-  abbrev end : ℕ
+  abbrev pub end : ℕ
   end = 20 + 16 * countOf file
 
   abbrev directory : ℕ → List Case
@@ -89,7 +89,7 @@ module _ (key file : List ℕ) where
       ap₂ fields (ap (λ (k : ℕ). end + k) (tag-none (layoutOf file) other) ∙ add-zero end) (untagged one)
 
   checking : firstOf (checkCases key [] file) ≡ renumbered file (firstOf (layout1Cases key file))
-  unfolding checkCasesBy taggedCasesBy fileCasesBy headerCases frontCases fieldCases keyCases tagKeyCases goodKey layoutUnder layout1Cases
+  unfolding checkCasesBy underKeyCasesBy fileCasesBy headerCases frontCases fieldCases keyCases tagKeyCases goodKey layoutUnder layout1Cases
       renumbered firstOf
   checking =
       judged (not (goodKey (length key))) (ltb (length file) 20) (ltb 65536 (length file)) (layoutOf file) _ _ same-fields

@@ -30,7 +30,7 @@ use Rattle.header.specs.Cases.{headerCases}
 use Rattle.header.proofs.Layouts.{tag-16, tag-none, layout-1, layout-2}
 use Rattle.header.proofs.Cases.{header-positive}
 use Rattle.header.proofs.Accepted.{HeaderGood, header-good}
-use Rattle.admission.specs.Check.{keyCheck, tagBytes, wrongTagCases, fileCases, fileCasesBy, taggedCases, taggedCasesBy}
+use Rattle.admission.specs.Check.{keyCheck, tagBytes, wrongTagCases, fileCases, fileCasesBy, underKeyCases, underKeyCasesBy}
 use Rattle.admission.specs.Internal.{tagCasesUnder}
 use Rattle.admission.proofs.Checking.{file-positive}
 
@@ -84,8 +84,8 @@ module _ (layout : ℕ) (s : Schedule) (keysize : ℕ) (file : List ℕ) (e : fi
 
 module _ (s : Schedule) (keysize : ℕ) (tagKey file : List ℕ) (n : ℕ) where
   -- no tag key: header and directory decide
-  pub tagged-none : length tagKey ≡ 0 → n ≡ firstOf (fileCases 1 s keysize file) → n ≡ firstOf (taggedCases s keysize tagKey file)
-  unfolding taggedCasesBy firstOf
+  pub tagged-none : length tagKey ≡ 0 → n ≡ firstOf (fileCases 1 s keysize file) → n ≡ firstOf (underKeyCases s keysize tagKey file)
+  unfolding underKeyCasesBy firstOf
   tagged-none e en =
       let p : positive (fileCases 1 s keysize file) ≡ true = file-positive _ 1 s keysize file in
       let last : firstOf (fileCases 1 s keysize file) ≡ 0 → firstOf [] ≡ firstOf (wrongTagCases tagKey file) =
@@ -103,8 +103,8 @@ module _ (s : Schedule) (keysize : ℕ) (tagKey file : List ℕ) (n : ℕ) where
 
     -- the tag key is refused
     pub tagged-else : OneOf (1 ∷ 2 ∷ []) (variantOf outcome.the-type (p .outcome)) → n ≡ number (p .outcome)
-        → n ≡ firstOf (taggedCases s keysize tagKey file)
-    unfolding taggedCasesBy
+        → n ≡ firstOf (underKeyCases s keysize tagKey file)
+    unfolding underKeyCasesBy
     tagged-else t e =
         e
         ∙ sym judged
@@ -112,19 +112,19 @@ module _ (s : Schedule) (keysize : ℕ) (tagKey file : List ℕ) (n : ℕ) where
 
     module _ (ready : p .outcome ≡ Ready) where
       -- it is good: the file is asked, as one of layout 2
-      asked : firstOf (taggedCases s keysize tagKey file) ≡ firstOf (fileCases 2 s keysize file ++ wrongTagCases tagKey file)
-      unfolding taggedCasesBy
+      asked : firstOf (underKeyCases s keysize tagKey file) ≡ firstOf (fileCases 2 s keysize file ++ wrongTagCases tagKey file)
+      unfolding underKeyCasesBy
       asked =
           first-pass (tagKeyCases (length tagKey)) _ (tag-key-positive (length tagKey)) (judged ∙ ap number ready)
           ∙ ap (λ (l : ℕ). firstOf (fileCases l s keysize file ++ wrongTagCases tagKey file)) (layout-2 tagKey some)
 
       -- it is refused
-      pub tagged-file : n ≡ firstOf (fileCases 2 s keysize file) → (n ≡ 0 → ⊥) → n ≡ firstOf (taggedCases s keysize tagKey file)
+      pub tagged-file : n ≡ firstOf (fileCases 2 s keysize file) → (n ≡ 0 → ⊥) → n ≡ firstOf (underKeyCases s keysize tagKey file)
       tagged-file e h = e ∙ sym (asked ∙ first-stop (fileCases 2 s keysize file) _ (λ q. h (e ∙ q)))
 
       -- the tag is left
       pub tagged-tag : firstOf (fileCases 2 s keysize file) ≡ 0 → n ≡ firstOf (tagCasesUnder (p .schedule) file)
-          → n ≡ firstOf (taggedCases s keysize tagKey file)
+          → n ≡ firstOf (underKeyCases s keysize tagKey file)
       tagged-tag z e =
           e
           ∙ ap (λ (t : Schedule). firstOf (tagCasesUnder t file)) (r .schedule)

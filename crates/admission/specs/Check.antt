@@ -43,28 +43,28 @@ unfoldable pub fileCasesBy : (List ℕ → ℕ) → ℕ → Schedule → ℕ →
 fileCasesBy order layout s keysize file =
     headerCases layout keysize (keyCheck s) file ++ directoryCasesBy order (directoryOf file) (directoryEnd file) (bodiesEnd file)
 
--- the cases of the tag key and of the file
-unfoldable pub taggedCasesBy : (List ℕ → ℕ) → Schedule → ℕ → List ℕ → List ℕ → List Case
-taggedCasesBy order s keysize tagKey file =
+-- the cases under a good key: those of the tag key, then of the file, its tag last
+unfoldable pub underKeyCasesBy : (List ℕ → ℕ) → Schedule → ℕ → List ℕ → List ℕ → List Case
+underKeyCasesBy order s keysize tagKey file =
     tagKeyCases (length tagKey) ++ (fileCasesBy order (layoutUnder tagKey) s keysize file ++ wrongTagCases tagKey file)
 
 -- the cases of checking
 unfoldable pub checkCasesBy : (List ℕ → ℕ) → List ℕ → List ℕ → List ℕ → List Case
-checkCasesBy order key tagKey file = keyCases (length key) ++ taggedCasesBy order (scheduleOf key) (length key) tagKey file
+checkCasesBy order key tagKey file = keyCases (length key) ++ underKeyCasesBy order (scheduleOf key) (length key) tagKey file
 
 -- ---- by the order of years
 
 abbrev pub fileCases : ℕ → Schedule → ℕ → List ℕ → List Case
 fileCases layout s keysize file = fileCasesBy orderOf layout s keysize file
 
-abbrev pub taggedCases : Schedule → ℕ → List ℕ → List ℕ → List Case
-taggedCases s keysize tagKey file = taggedCasesBy orderOf s keysize tagKey file
+abbrev pub underKeyCases : Schedule → ℕ → List ℕ → List ℕ → List Case
+underKeyCases s keysize tagKey file = underKeyCasesBy orderOf s keysize tagKey file
 
 abbrev pub checkCases : List ℕ → List ℕ → List ℕ → List Case
 checkCases key tagKey file = checkCasesBy orderOf key tagKey file
 
--- the contract of admission, with which every call on an archive begins: the number of the first case, 0 for none, and the key's schedule,
--- that of a refused key being `scheduleOf` of it too
+-- the contract of admission, with which every call on an archive begins: the number of the first case, 0 for none, and the key's schedule;
+-- of a refused key, no rounds and zero keys, which `scheduleOf` then is
 pub record Admits (key tagKey file : List ℕ) (r : Admitted) : Type 0 where
   pub number : r .number ≡ firstOf (checkCases key tagKey file)
   pub schedule : r .schedule ≡ scheduleOf key

@@ -10,7 +10,7 @@ ghost use lib.ListN.{length};
 ghost use Rattle.refusals.specs.Cases.{firstOf};
 ghost use Rattle.refusals.specs.Shared.{goodRounds};
 ghost use Rattle.header.specs.Fields.{layoutOf};
-ghost use Rattle.admission.specs.Check.{keyCheck, fileCases, taggedCases, Admits};
+ghost use Rattle.admission.specs.Check.{keyCheck, fileCases, underKeyCases, Admits};
 ghost use Rattle.admission.specs.Internal.{tagCasesUnder};
 
 // What the whole check comes to: a refusal's number or 0, and the schedule of the key.
@@ -47,7 +47,7 @@ fn file_refusal(layout: usize, schedule: Schedule, keysize: usize, file: &[u8]) 
     )
 }
 
-// The refusal of the tag of a file that has room for one, under the tag key's schedule, or 0.
+// The refusal of the tag of a file of layout 2 that has room for it, under the tag key's schedule, or 0.
 fn tag_refusal(schedule: Schedule, file: &[u8]) -> u32
     requires { ⌜ (goodRounds (schedule .rounds) ≡ true) × (layoutOf (now file) ≡ 2) × (16 ≤ length (now file)) ⌝ }
     ensures { λ r. ⌜ r ≡ firstOf (tagCasesUnder schedule (now (file .entry))) ⌝ }
@@ -57,10 +57,10 @@ fn tag_refusal(schedule: Schedule, file: &[u8]) -> u32
     cmac::number_of(verdict)
 }
 
-// The refusal of the tag key or of the file, or 0. No tag key is none: it is not prepared, and the file has to be of layout 1.
+// The refusal of the tag key or of the file, or 0. A tag key of 0 bytes means none: it is not prepared, and the file has to be of layout 1.
 fn refusal(schedule: Schedule, keysize: usize, tag_key: &[u8], file: &[u8]) -> u32
     requires { ⌜ goodRounds (schedule .rounds) ≡ true ⌝ }
-    ensures { λ r. ⌜ r ≡ firstOf (taggedCases schedule keysize (now («tag_key» .entry)) (now (file .entry))) ⌝ }
+    ensures { λ r. ⌜ r ≡ firstOf (underKeyCases schedule keysize (now («tag_key» .entry)) (now (file .entry))) ⌝ }
 {
     if tag_key.len() == 0 {
         return file_refusal(1, schedule, keysize, file);

@@ -1,5 +1,5 @@
--- What an accepted archive has, of either layout, and that an archive which has it is accepted; the theorems are `sound-archives` and
--- `accepted-archives` of proofs/Sound.
+-- What an accepted archive has, of either layout, and that a file with good keys, a header without a case, a sound directory and the right
+-- tag is accepted; the theorems are `sound-archives` and `accepted-archives` of proofs/Sound.
 -- Assumes nothing.
 use mathlib.Core.Path.{_≡_}
 use mathlib.Core.List.{List, _++_}

@@ -1,5 +1,6 @@
-// The jobs of a file by its directory, without a check of the file: looking a job number up, and the sealed body of an entry. Both calls
-// are total, and take any bytes for a file.
+// The jobs of a file by its directory: looking a job number up, and the sealed body of an entry. Both calls are total, and take any bytes
+// for a file. They are parts of finding and opening, made after `admission::admit`, and are not 01's finding: a reader of archives calls
+// `archive` and `opening`, which begin with the whole check.
 use directory::Found;
 use octets::part;
 use octets::u32_at;

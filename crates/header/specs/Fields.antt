@@ -68,11 +68,11 @@ pub record DirectoryPart (file r : RefT (List ℕ)) : Type 0 where
   pub bytes : now r ≡ directoryOf (now file)
   pub place : 20 ≤ length (now file) → liesAt file 20 r
 
--- where the bodies have to end: at the tag, or at the file's end where there is none
+-- where the bodies have to end: at the tag, or at the file's end where there is none; 0 where the file is shorter than the tag
 abbrev pub bodiesEnd : List ℕ → ℕ
 bodiesEnd file = length file - tagSize (layoutOf file)
 
--- the tag, no bytes in layout 1, and the bytes that it is taken over
+-- the tag, no bytes in layout 1, and the bytes that it is taken over; a file that is shorter than the tag is all tag
 unfoldable pub tagOf : List ℕ → List ℕ
 tagOf file = drop (bodiesEnd file) file
 

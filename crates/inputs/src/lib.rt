@@ -124,6 +124,23 @@ pub fn standard_input(buf: &mut [u8]) -> Input
     input
 }
 
+// Whether a name is that of a link.
+fn is_link(name: &[u8]) -> bool {
+    let mut path = [0u8; libc::PATH_MAX];
+    octets::copy(name, &mut path);
+    path[libc::PATH_MAX - 1] = 0;
+    let mut text = [0u8; 1];
+    libc::readlink(&path, &mut text) >= 0
+}
+
+// Whether a file that could not be opened is missing. A link that leads nowhere is there, as to a key on a disk that is not.
+fn is_missing(name: &[u8]) -> bool {
+    if os::errno() != libc::ENOENT {
+        return false;
+    }
+    !is_link(name)
+}
+
 // Reads a file to its end, or as much of it as the buffer holds, and answers how many bytes that is. A file that is missing counts as
 // empty; one that cannot be read counts as one that fills the buffer, whatever was read of it. So a caller lends one byte more than the
 // longest file that it takes, and never takes a file for one that was read to its end when it was not.
@@ -132,7 +149,7 @@ pub fn named_file(name: &[u8], buf: &mut [u8]) -> usize
 {
     let fd = os::open_read(name);
     if fd < 0 {
-        if os::errno() == libc::ENOENT {
+        if is_missing(name) {
             return 0;
         }
         return buf.len();

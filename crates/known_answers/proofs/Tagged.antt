@@ -27,14 +27,14 @@ use Rattle.jobnumber.specs.Number.{digits, isJobNumber, centuryOf, serialOf, or
 use Rattle.directory.specs.Check.{bodyFrom, ascendsBy, entryCasesBy, restCases, directoryCasesBy}
 use Rattle.directory.specs.Search.{bears, above, endsAt, stopOf, indexOf, searchCases}
 use Rattle.bodies.specs.Bodies.{bodyAt, numberCases}
-use Rattle.admission.specs.Check.{keyCheck, tagBytes, wrongTagCases, fileCasesBy, taggedCasesBy, checkCasesBy}
+use Rattle.admission.specs.Check.{keyCheck, tagBytes, wrongTagCases, fileCasesBy, underKeyCasesBy, checkCasesBy}
 use Rattle.archive.specs.Find.{findCases}
 use Rattle.opening.specs.Open.{prefixOf, underKeystream, roomCases, rangeCases, openCases}
 use Rattle.decimal.specs.Decimal.{digitsIn, decimalDigits}
 use Rattle.listing.specs.Text.{field, numberLine, jobLine, jobLines, textOf}
 use Rattle.known_answers.specs.Readings.{every, job24000017}
 use Rattle.known_answers.specs.Vectors.{rfcKey}
-use Rattle.known_answers.specs.Sample.{sampleFile, sampleText, refusedBy}
+use Rattle.known_answers.specs.Sample.{sampleFile, sampleText, gave, refusedBy}
 use Rattle.known_answers.specs.Tagged.{taggedFile, sampleTagKey, taggedReadings}
 
 pub tagged-holds : every taggedReadings ≡ true
@@ -46,9 +46,9 @@ unfolding every job24000017 rfcKey sampleFile sampleText taggedFile sampleTagKey
     counterBlock keystream addStream isLayout layoutUnder tagSize countOf archiveNumber directoryOf tagOf taggedOf
     frontCases fieldCases headerCases
     entryAt digits isJobNumber centuryOf serialOf orderOf bodyFrom ascendsBy entryCasesBy restCases directoryCasesBy
-    bears above endsAt stopOf indexOf searchCases keyCheck tagBytes wrongTagCases fileCasesBy taggedCasesBy checkCasesBy
+    bears above endsAt stopOf indexOf searchCases keyCheck tagBytes wrongTagCases fileCasesBy underKeyCasesBy checkCasesBy
     bodyAt prefixOf underKeystream
-    numberCases findCases roomCases rangeCases openCases refusedBy
+    numberCases findCases roomCases rangeCases openCases gave refusedBy
     chained shiftedLeft r128 doubled lastBlock macOf tagUnder
     digitsIn decimalDigits field numberLine jobLine jobLines textOf
 tagged-holds = refl

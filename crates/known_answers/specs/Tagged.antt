@@ -25,12 +25,14 @@ taggedFile =
 unfoldable pub sampleTagKey : List ℕ
 sampleTagKey = values (λ (i : ℕ). 0x10 + i) 32
 
--- the listing; with the last byte of the body changed, and of the tag; with no tag key, and the first sample with one; with a tag key of 31
--- bytes, and of 33 on a file of no bytes; cut short by a byte, where the whole length differs; and 02's reading, 20 bytes of layout 2, with
--- no tag key and, its whole length being right, with one
+-- the listing, and the job opened; with the last byte of the body changed, and of the tag; with no tag key, and the first sample with one;
+-- with a tag key of 31 bytes, and of 33 on a file of no bytes; cut short by a byte, where the whole length differs; and 02's reading, 20
+-- bytes of layout 2, with no tag key and, with no jobs and the right whole length, with one. Then two faults at once: a byte too many before
+-- a wrong tag gets 17 before 25; another key length with no tag key 24 before 8; layout 3 under a tag key 7 before 24
 unfoldable pub taggedReadings : List Bool
 taggedReadings =
     sameBytes (listingText (rfcKey 16) sampleTagKey taggedFile) sampleText
+    ∷ gave 5 (openOf (rfcKey 16) sampleTagKey taggedFile job24000017 0 5 5)
     ∷ refusedBy 25 (openOf (rfcKey 16) sampleTagKey (take 56 taggedFile ++ (0xa7 ∷ drop 57 taggedFile)) job24000017 0 5 5)
     ∷ refusedBy 25 (checkOf (rfcKey 16) sampleTagKey (take 72 taggedFile ++ (0x86 ∷ [])))
     ∷ refusedBy 24 (checkOf (rfcKey 16) [] taggedFile)
@@ -40,4 +42,7 @@ taggedReadings =
     ∷ refusedBy 10 (checkOf (rfcKey 16) sampleTagKey (take 72 taggedFile))
     ∷ refusedBy 24 (checkOf (rfcKey 16) [] (take 20 taggedFile))
     ∷ refusedBy 11 (checkOf (rfcKey 16) sampleTagKey (take 3 taggedFile ++ (0x00 ∷ take 12 (drop 4 taggedFile) ++ (0 ∷ 0 ∷ 0 ∷ 0x14 ∷ []))))
+    ∷ refusedBy 17 (checkOf (rfcKey 16) sampleTagKey (take 19 taggedFile ++ (0x4a ∷ drop 20 taggedFile ++ (0x00 ∷ []))))
+    ∷ refusedBy 24 (checkOf (rfcKey 16) [] (0x02 ∷ 0x18 ∷ drop 2 taggedFile))
+    ∷ refusedBy 7 (checkOf (rfcKey 16) sampleTagKey (0x03 ∷ drop 1 taggedFile))
     ∷ []

@@ -22,7 +22,7 @@ use Rattle.directory.specs.Check.{directoryCasesBy}
 use Rattle.directory.specs.EarlyEnd.{fullIndexOf, fullSearchCases}
 use Rattle.directory.proofs.Spans.{same-span, mixed-span}
 use Rattle.bodies.specs.Bodies.{bodyAt}
-use Rattle.admission.specs.Check.{keyCheck, wrongTagCases, fileCasesBy, taggedCasesBy, checkCases, checkCasesBy}
+use Rattle.admission.specs.Check.{keyCheck, wrongTagCases, fileCasesBy, underKeyCasesBy, checkCases, checkCasesBy}
 use Rattle.admission.proofs.Checking.{file-positive, check-positive}
 use Rattle.admission.proofs.Accepted.{accepted-directory, accepted-directory-by}
 use Rattle.archive.proofs.Finding.{find-refused}
@@ -36,7 +36,7 @@ module _ (o p : List ℕ → ℕ) (key tagKey file : List ℕ) where
   check-alike : firstOf (directoryCasesBy o (directoryOf file) (directoryEnd file) (bodiesEnd file))
       ≡ firstOf (directoryCasesBy p (directoryOf file) (directoryEnd file) (bodiesEnd file))
       → firstOf (checkCasesBy o key tagKey file) ≡ firstOf (checkCasesBy p key tagKey file)
-  unfolding checkCasesBy taggedCasesBy fileCasesBy
+  unfolding checkCasesBy underKeyCasesBy fileCasesBy
   check-alike e =
       let k = key-positive (length key) in
       let t = tag-key-positive (length tagKey) in

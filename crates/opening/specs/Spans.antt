@@ -19,11 +19,12 @@ use Rattle.archive.specs.Find.{findOf, bodyGiven}
 use Rattle.opening.specs.Open.{plainRange, openOf}
 use Rattle.opening.specs.EarlyEnd.{AsFull}
 
--- what checking answered before
+-- what checking answers with case 14 by the plain number: without a tag key what it answered before, but 24 where the layout byte is 2; with
+-- one, what it would have
 abbrev pub plainCheckOf : List ℕ → List ℕ → List ℕ → Answer
 plainCheckOf key tagKey file = answer (firstOf (checkCasesBy jobNumber key tagKey file)) (countOf file)
 
--- every call of this crate comes to what it comes to by the plain number, finding, the body and opening over the full search; `held` is
+-- every call on an archive comes to what it comes to by the plain number, finding, the body and opening over the full search; `held` is
 -- what the buffer for opening held. The places of the parts, and the listing, follow from what is answered
 pub record AsBefore (key tagKey file number held : List ℕ) : Type 0 where
   pub checking : checkOf key tagKey file ≡ plainCheckOf key tagKey file

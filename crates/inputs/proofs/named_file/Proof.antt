@@ -9,8 +9,8 @@ use Rattle.inputs.proofs.named_file.Tie as tie
 open-read-requires : tie.Need-open-read-requires
 open-read-requires c κs = search needs
 
-errno-requires : tie.Need-errno-requires
-errno-requires c κs = search needs
+is-missing-requires : tie.Need-is-missing-requires
+is-missing-requires c κs = search needs
 
 returns : tie.Need-returns
 returns c = search needs
@@ -43,7 +43,7 @@ named-file-spec =
     tie.close
     (tie.spec
     open-read-requires
-    errno-requires
+    is-missing-requires
     returns
     returns-2
     read-all-requires
