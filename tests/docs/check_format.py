@@ -48,7 +48,7 @@ TAGGED_SAYS = [
     "such a file is then refused, with 24.",
     "the same three steps make an archive of layout 1, with the same jobs under the same key.",
     "The tag key must be a key of its own, under which nothing is encrypted: not the key of this archive, nor of any other.",
-    "no check can find it out.",
+    "no check here looks for it, and of another archive's key none could.",
     "There may be no jobs; the file is then 20 bytes long, or 36 in layout 2.",
     "So a file of layout 2 with 20 to 35 bytes, which has no room for a header and a tag, gets 11 where no check before that applies.",
     "The program `jobs`, with the tag key in `tag.bin`, prints of this archive the same three lines as of the one above; without it, `refused 24`.",

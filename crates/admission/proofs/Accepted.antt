@@ -1,6 +1,6 @@
 -- What an archive without a case, by any order of job numbers, is known to have: each stage's part of it.
 -- Assumes nothing.
-use mathlib.Core.Path.{_≡_, sym, ap}
+use mathlib.Core.Path.{_≡_, sym, ap, _∙_}
 use mathlib.Core.Bool.{true, not}
 use mathlib.Core.List.{List, _++_}
 use Prim.Native.Nat.{ℕ, _+_, _<_, _≤_}
@@ -10,7 +10,7 @@ use lib.ListN.{length}
 use Rattle.refusals.specs.Cases.{firstOf}
 use Rattle.refusals.specs.Shared.{goodRounds, keyCases, tagKeyCases}
 use Rattle.refusals.proofs.Cases.{first-none, one-passes, clear}
-use Rattle.refusals.proofs.Shared.{key-positive, key-good, tag-key-positive}
+use Rattle.refusals.proofs.Shared.{key-positive, key-good, tag-key-positive, tag-key-some}
 use Rattle.octets.proofs.Equality.{same-eq, eq-same}
 use Rattle.expansion.specs.KeySchedule.{scheduleOf}
 use Rattle.expansion.proofs.KeyLengths.{good-rounds}
@@ -60,6 +60,11 @@ module _ (order : List ℕ → ℕ) (key tagKey file : List ℕ) (e : firstOf (c
 
   pub accepted-rounds : goodRounds (scheduleOf key .rounds) ≡ true
   accepted-rounds = good-rounds key (key-good (length key) (key-stage .0))
+
+  -- of the tag key too, where there is one
+  pub accepted-tag-rounds : (length tagKey ≡ 0 → ⊥) → goodRounds (scheduleOf tagKey .rounds) ≡ true
+  accepted-tag-rounds h =
+      good-rounds tagKey (key-good (length tagKey) (sym (tag-key-some (length tagKey) h) ∙ tag-key-stage .0))
 
   pub accepted-header : HeaderGood (layoutUnder tagKey) (length key) (keyCheck (scheduleOf key)) file
   accepted-header = header-good (layoutUnder tagKey) (length key) (keyCheck (scheduleOf key)) file (file-stages .0)

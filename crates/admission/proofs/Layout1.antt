@@ -11,7 +11,7 @@ use lib.Dec.{ltb, eqb}
 use lib.ListN.{length}
 use Rattle.refusals.specs.Cases.{Case, firstOf, positive}
 use Rattle.refusals.specs.Shared.{goodKey, keyCases, tagKeyCases}
-use Rattle.refusals.proofs.Cases.{positive-append, first-stop, first-pass, first-alike, clear}
+use Rattle.refusals.proofs.Cases.{first-stop, first-pass, first-alike, clear}
 use Rattle.octets.specs.Equality.{sameBytes}
 use Rattle.expansion.specs.KeySchedule.{scheduleOf}
 use Rattle.header.specs.Fields.{layoutOf, isLayout, layoutUnder, tagSize, keyLengthOf, countOf, keyCheckOf, lengthOf, directoryOf}

@@ -1,6 +1,6 @@
 -- Under a tag key the cases are those of layout 2: they are compared up to the layout, then, where it is 2, the rest of them.
 -- Assumes nothing.
-use mathlib.Core.Path.{_≡_, refl, sym, ap, ap₂, _∙_}
+use mathlib.Core.Path.{_≡_, refl, ap, ap₂}
 use mathlib.Core.Bool.{Bool, true, false, not, cond, _||_}
 use mathlib.Core.List.{List, [], _∷_, _++_}
 use Prim.Native.Nat.{ℕ, _+_, _-_, _*_}
@@ -8,7 +8,7 @@ use native.Mathlib.Omega.{arith}
 use borrow.Author.Tests.{eqb-true, ne-eqb}
 use lib.Dec.{ltb, eqb}
 use lib.ListN.{length, take, drop}
-use Rattle.refusals.specs.Cases.{Case, when, firstOf}
+use Rattle.refusals.specs.Cases.{when, firstOf}
 use Rattle.refusals.specs.Shared.{goodKey, keyCases, tagKeyCases}
 use Rattle.octets.specs.Equality.{sameBytes}
 use Rattle.expansion.specs.KeySchedule.{scheduleOf}

@@ -1,7 +1,7 @@
 -- The tag of a file: the part that it is, what it is compared with under a tag key and with none, and the ways out of asking for it.
 -- Assumes nothing.
 use mathlib.Core.Path.{_≡_, refl, sym, ap, ap₂, _∙_}
-use mathlib.Core.Bool.{Bool, true, not, cond}
+use mathlib.Core.Bool.{true, not}
 use mathlib.Core.List.{List, [], _∷_, _++_, append-nil}
 use Prim.Native.Nat.{ℕ, _+_, _-_, _≤_}
 use native.Mathlib.Omega.{arith}
@@ -10,7 +10,7 @@ use types.Run.{OneOf}
 use borrow.Author.Tests.{eq-eqb, ne-eqb}
 use lib.ListN.{length, take, drop, length-drop, drop-of-length-le}
 use lib.Seq.{take-all}
-use Rattle.refusals.specs.Cases.{Case, when, firstOf, positive}
+use Rattle.refusals.specs.Cases.{when, firstOf, positive}
 use Rattle.refusals.specs.Shared.{goodRounds, tagKeyCases, roundsCases}
 use Rattle.refusals.proofs.Cases.{first-stop, first-pass, first-none, first-alike, one-passes}
 use Rattle.refusals.proofs.Shared.{rounds-positive, rounds-0, tag-key-positive, tag-key-none, tag-key-some}
@@ -25,7 +25,7 @@ use Rattle.expansion.proofs.Outcome as outcome
 use Rattle.expansion.proofs.Taken.{number-else}
 use Rattle.cmac.specs.Tag.{tagUnder, verifyNumberUnder}
 use Rattle.cmac.proofs.Answers.{verify-same}
-use Rattle.header.specs.Fields.{layoutOf, layoutUnder, bodiesEnd, tagOf, taggedOf}
+use Rattle.header.specs.Fields.{layoutOf, bodiesEnd, tagOf, taggedOf}
 use Rattle.header.specs.Cases.{headerCases}
 use Rattle.header.proofs.Layouts.{tag-16, tag-none, layout-1, layout-2}
 use Rattle.header.proofs.Cases.{header-positive}
@@ -67,9 +67,13 @@ no-tag tagKey file e h =
     one-passes _ 25 (ap not (eq-same _ _ (none ∙ sym (drop-of-length-le file past))))
 
 -- under a tag key it is CMAC's
+pub tag-under : (tagKey bytes : List ℕ) → (length tagKey ≡ 0 → ⊥) → tagBytes tagKey bytes ≡ tagUnder (scheduleOf tagKey) bytes
+unfolding tagBytes
+tag-under tagKey bytes h = rw (ne-eqb (length tagKey) 0 h)
+
 under-key : (tagKey file : List ℕ) → (length tagKey ≡ 0 → ⊥) → wrongTagCases tagKey file ≡ tagCasesUnder (scheduleOf tagKey) file
-unfolding wrongTagCases tagBytes tagCasesUnder
-under-key tagKey file h = rw (ne-eqb (length tagKey) 0 h)
+unfolding wrongTagCases tagCasesUnder
+under-key tagKey file h = ap (λ (t : List ℕ). when (not (sameBytes t (tagOf file))) 25 ∷ []) (tag-under tagKey (taggedOf file) h)
 
 -- ---- a file of a layout without a case
 

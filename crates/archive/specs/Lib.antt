@@ -1,3 +1,4 @@
 pub mod Check
 pub mod Find
 pub mod Sound
+pub mod Changes

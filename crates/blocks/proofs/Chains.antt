@@ -1,9 +1,11 @@
--- Laws of a chain over the blocks of a run, over any function of a block: its length, a turn of the loop that makes it, and that it reads
--- the blocks that it takes in and no others.
+-- Laws of a chain over the blocks of a run, over any function of a block: its length, a turn of the loop that makes it, that it reads the
+-- blocks that it takes in and no others, and, where the function is one-to-one on blocks, that one block changed is seen at its end.
 -- Assumes nothing.
-use mathlib.Core.Path.{_≡_, refl, ap, ap₂, _∙_}
+use mathlib.Core.Path.{_≡_, refl, sym, ap, ap₂, _∙_, subst}
 use mathlib.Core.List.{List}
-use Prim.Native.Nat.{ℕ, zero, suc, _+_, _-_, _*_, _/_, _%_, _≤_}
+use mathlib.Core.Logic.{⊎-elim}
+use Prim.Native.Nat.{ℕ, zero, suc, _+_, _-_, _*_, _/_, _%_, _≤_, _<_}
+use native.Mathlib.Nat.{eq-or-lt-of-le}
 use native.Mathlib.Omega.{arith}
 use lib.ListN.{length, take, drop, length-drop}
 use lib.Seq.{length-take-le}
@@ -11,8 +13,8 @@ use Rattle.octets.proofs.Parts.{part-front}
 use Rattle.blocks.specs.Xor.{xorBlock}
 use Rattle.blocks.specs.Blocks.{blockOf, blockAt}
 use Rattle.blocks.specs.Chains.{chained}
-use Rattle.blocks.proofs.Blocks.{block-whole}
-use Rattle.blocks.proofs.XorBlock.{length-xor}
+use Rattle.blocks.proofs.Blocks.{block-whole, length-block-at, drop-same}
+use Rattle.blocks.proofs.XorBlock.{length-xor, xor-cancel-left, xor-cancel-right}
 
 module _ (f : List ℕ → List ℕ) (start : List ℕ) where
   pub length-chain : ((b : List ℕ) → length b ≡ 16 → length (f b) ≡ 16) → length start ≡ 16 → (k : ℕ) (xs : List ℕ)
@@ -44,3 +46,52 @@ module _ (f : List ℕ → List ℕ) (start : List ℕ) where
   chain-front zero n xs h = refl
   chain-front (suc k) n xs h =
       ap₂ (λ (u v : List ℕ). f (xorBlock u v)) (chain-front k n xs (omega arith)) (part-front xs (16 * k) 16 n (omega arith))
+
+  -- chains over runs that begin with the same n bytes are the same as far as these reach
+  pub chain-same : (k n : ℕ) (xs ys : List ℕ) → 16 * k ≤ n → take n xs ≡ take n ys → chained f start k xs ≡ chained f start k ys
+  chain-same k n xs ys h e = sym (chain-front k n xs h) ∙ ap (chained f start k) e ∙ chain-front k n ys h
+
+-- ---- over a function that is one-to-one on blocks
+
+module _ (f : List ℕ → List ℕ) (one : (a b : List ℕ) → length a ≡ 16 → length b ≡ 16 → f a ≡ f b → a ≡ b) where
+  sums-same : (x y b c : List ℕ) → length x ≡ 16 → length y ≡ 16 → f (xorBlock x b) ≡ f (xorBlock y c) → xorBlock x b ≡ xorBlock y c
+  sums-same x y b c lx ly e = one _ _ (length-xor x b ∙ lx) (length-xor y c ∙ ly) e
+
+  -- where a step with the same block ends in the same value, it began with the same value
+  pub step-values : (x y b c : List ℕ) → length x ≡ 16 → length y ≡ 16 → b ≡ c → f (xorBlock x b) ≡ f (xorBlock y c) → x ≡ y
+  step-values x y b c lx ly eb e = xor-cancel-right x y c (ap (xorBlock x) (sym eb) ∙ sums-same x y b c lx ly e)
+
+  -- and where it began with the same value, it was with the same block
+  pub step-blocks : (x y b c : List ℕ) → length x ≡ 16 → length y ≡ 16 → length b ≡ 16 → length c ≡ 16 → x ≡ y
+      → f (xorBlock x b) ≡ f (xorBlock y c) → b ≡ c
+  step-blocks x y b c lx ly lb lc ex e =
+      xor-cancel-left y b c (ly ∙ sym lb) (ly ∙ sym lc) (ap (λ (l : List ℕ). xorBlock l b) (sym ex) ∙ sums-same x y b c lx ly e)
+
+  module _ (keeps : (b : List ℕ) → length b ≡ 16 → length (f b) ≡ 16) (start : List ℕ) (size : length start ≡ 16) where
+    -- of two runs that are the same outside block k, chains past it end in the same value only where block k is the same
+    pub chain-block : (k j : ℕ) (xs ys : List ℕ) → k < j → 16 * j ≤ length xs → 16 * j ≤ length ys → take (16 * k) xs ≡ take (16 * k) ys
+        → drop (16 * suc k) xs ≡ drop (16 * suc k) ys → chained f start j xs ≡ chained f start j ys → blockAt k xs ≡ blockAt k ys
+    unfolding chained
+    chain-block k zero xs ys l hx hy before behind e = absurd (omega arith)
+    chain-block k (suc j) xs ys l hx hy before behind e =
+        let lx = length-chain f start keeps size j xs in
+        let ly = length-chain f start keeps size j ys in
+        let here : k ≡ j → blockAt k xs ≡ blockAt k ys =
+        λ q.
+        let same : chained f start j xs ≡ chained f start j ys = chain-same f start j (16 * k) xs ys (omega arith) before in
+        let at : blockAt j xs ≡ blockAt j ys =
+        step-blocks (chained f start j xs) (chained f start j ys) (blockAt j xs) (blockAt j ys) lx ly (length-block-at j xs hx)
+        (length-block-at j ys hy) same e
+        in
+        subst (λ (i : ℕ). blockAt i xs ≡ blockAt i ys) (sym q) at
+        in
+        let later : k < j → blockAt k xs ≡ blockAt k ys =
+        λ p.
+        let at : blockAt j xs ≡ blockAt j ys = ap (take 16) (drop-same xs ys (16 * suc k) (16 * j) (omega arith) behind) in
+        let same : chained f start j xs ≡ chained f start j ys =
+        step-values (chained f start j xs) (chained f start j ys) (blockAt j xs) (blockAt j ys) lx ly at e
+        in
+        chain-block k j xs ys p (omega arith) (omega arith) before behind same
+        in
+        let upto : k ≤ j = omega arith in
+        ⊎-elim here later (eq-or-lt-of-le upto)

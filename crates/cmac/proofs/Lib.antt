@@ -1,3 +1,4 @@
 pub mod Generation
 pub mod Answers
 pub mod Laws
+pub mod Changes

@@ -1,3 +1,4 @@
 pub mod Cmac
 pub mod Tag
 pub mod Laws
+pub mod Changes

@@ -1,6 +1,7 @@
--- Encryption under a schedule and under its decryption schedule undo each other on every block, whatever the key bytes.
+-- Encryption under a schedule and under its decryption schedule undo each other on every block, whatever the key bytes; so each is
+-- one-to-one.
 -- Assumes nothing.
-use mathlib.Core.Path.{_≡_, ap, _∙_}
+use mathlib.Core.Path.{_≡_, sym, ap, _∙_}
 use mathlib.Core.Bool.{true}
 use mathlib.Core.List.{List}
 use Prim.Native.Nat.{ℕ}
@@ -36,3 +37,7 @@ module _ (s : Schedule) (good : goodRounds (s .rounds) ≡ true) where
       ap (λ (t : Schedule). encrypted s (encrypted t b)) (decryption-good s good)
       ∙ circuit-undo box box-undoing (s .rounds) ks (s .keys) b (k .some) (k .even) h
       (reversed-back (s .rounds) (s .keys) ks (reversed-keys (s .rounds) (s .keys)))
+
+  -- different blocks are encrypted to different blocks
+  pub encrypted-one : (a b : List ℕ) → length a ≡ 16 → length b ≡ 16 → encrypted s a ≡ encrypted s b → a ≡ b
+  encrypted-one a b la lb e = sym (decrypt-encrypt a la) ∙ ap (encrypted (decryptionOf s)) e ∙ decrypt-encrypt b lb

@@ -1,14 +1,14 @@
 -- Laws of the layouts: how many bytes the tag has, and which layout is read under which tag key.
 -- Assumes nothing.
-use mathlib.Core.Path.{_≡_, refl, ap}
-use mathlib.Core.Bool.{Bool, true, false, cond, _||_}
+use mathlib.Core.Path.{_≡_}
+use mathlib.Core.Bool.{Bool, true, false, cond}
 use mathlib.Core.List.{List}
 use Prim.Native.Nat.{ℕ, _≤_}
 use native.Mathlib.Omega.{arith}
-use borrow.Author.Tests.{eq-eqb, ne-eqb, eqb-true}
+use borrow.Author.Tests.{eq-eqb, ne-eqb}
 use lib.Dec.{eqb}
 use lib.ListN.{length}
-use Rattle.header.specs.Fields.{isLayout, layoutUnder, tagSize}
+use Rattle.header.specs.Fields.{layoutUnder, tagSize}
 
 pub tag-16 : (layout : ℕ) → layout ≡ 2 → tagSize layout ≡ 16
 unfolding tagSize

@@ -6,7 +6,6 @@ use Prim.Native.Nat.{ℕ, _+_, _≤_}
 use native.Mathlib.Omega.{arith}
 use lib.ListN.{length, take, drop}
 use lib.Seq.{take-all, take-add, drop-drop}
-use Rattle.refusals.specs.Cases.{firstOf}
 use Rattle.refusals.specs.Answers.{Answer, gives, answer}
 use Rattle.refusals.proofs.Cases.{first-alike}
 use Rattle.expansion.specs.KeySchedule.{scheduleOf}
@@ -14,7 +13,7 @@ use Rattle.ctr.specs.Counter.{keystream}
 use Rattle.ctr.proofs.Streams.{length-stream}
 use Rattle.header.specs.Fields.{archiveNumber}
 use Rattle.archive.specs.Find.{findCases}
-use Rattle.opening.specs.Open.{prefixOf, underKeystream, bodyOf, plainOf, jobSize, rangeOf, plainRange}
+use Rattle.opening.specs.Open.{prefixOf, underKeystream, bodyOf, plainOf, jobSize, rangeOf}
 use Rattle.opening.specs.Open.{openCases, Opens}
 use Rattle.opening.specs.Ranges.{RangesJoin, WholeJobs}
 use Rattle.opening.proofs.Opening.{range-whole, find-positive, opens-none}

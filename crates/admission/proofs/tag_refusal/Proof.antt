@@ -1,7 +1,6 @@
 -- `admission::tag_refusal` meets its contract: the file's last sixteen bytes are compared with the tag of those before them.
 -- Assumes nothing.
 use mathlib.Core.Path.{ap, _∙_}
-use mathlib.Core.List.{List}
 use Prim.Native.Nat.{ℕ}
 use lib.ListN.{take, drop}
 use borrow.Author.Needs.{needs}

@@ -1,9 +1,8 @@
 -- `opening::open_body` meets its contract: the range is held to the body, then to the buffer, and its part of the body is decrypted.
 -- Assumes nothing.
-use mathlib.Core.Path.{_≡_, sym, ap, _∙_}
-use Prim.Native.Nat.{_≤_}
+use mathlib.Core.Path.{sym, _∙_}
 use native.Mathlib.Omega.{arith}
-use lib.ListN.{length, length-take}
+use lib.ListN.{length-take}
 use borrow.Author.Needs.{needs}
 use Rattle.opening.proofs.Opening.{body-past, body-short, body-open}
 use Rattle.opening.proofs.open_body.Statement.{statement}
