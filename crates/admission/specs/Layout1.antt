@@ -1,5 +1,5 @@
--- Without a tag key an archive is judged as before layout 2 came (02, d: "Layout 1 is still read where no tag key is given"), but for a
--- file whose layout byte is 2, which got 7 then where it gets 24 now. The theorem is `layout-1-unchanged` of proofs/Layout1.
+-- Without a tag key an archive is judged as before layout 2 came (02, d: "Layout 1 is still read where no tag key is given"), but for 24
+-- in place of 7 where the layout byte is 2. The theorem is `layout-1-unchanged` of proofs/Layout1.
 -- Assumes nothing.
 use mathlib.Core.Path.{_≡_}
 use mathlib.Core.Bool.{not, cond, _&&_}

@@ -36,7 +36,7 @@ layout2Cases key tagKey file =
     ∷ directoryCases (directoryOf file) (20 + 16 * countOf file) (tagStart file)
     ++ (when (not (sameBytes (tagUnder (scheduleOf tagKey) (take (tagStart file) file)) (drop (tagStart file) file))) 25 ∷ [])
 
--- of every file and every tag key that is one
+-- of every file and every tag key that has bytes, a bad one too
 abbrev pub Layout2WrittenOut : Type 0
 Layout2WrittenOut = (key tagKey file : List ℕ) → (length tagKey ≡ 0 → ⊥)
     → firstOf (checkCases key tagKey file) ≡ firstOf (layout2Cases key tagKey file)

@@ -25,10 +25,10 @@ taggedFile =
 unfoldable pub sampleTagKey : List ℕ
 sampleTagKey = values (λ (i : ℕ). 0x10 + i) 32
 
--- the listing, and the job opened; with the last byte of the body changed, and of the tag; with no tag key, and the first sample with one;
--- with a tag key of 31 bytes, and of 33 on a file of no bytes; cut short by a byte, where the whole length differs; and 02's reading, 20
--- bytes of layout 2, with no tag key and, with no jobs and the right whole length, with one. Then two faults at once: a byte too many
--- before a wrong tag gets 17 before 25; another key length with no tag key 24 before 8; layout 3 under a tag key 7 before 24
+-- the listing, and how many bytes the job opens to; with the last byte of the body changed, and of the tag; with no tag key, and the first
+-- sample with one; with a tag key of 31 bytes, and of 33 on a file of no bytes; cut short by a byte, where the whole length differs; and
+-- 02's reading, 20 bytes of layout 2, with no tag key and, with no jobs and the right whole length, with one. Then two faults at once: a
+-- byte too many before a wrong tag gets 17 before 25; another key length with no tag key 24 before 8; layout 3 under a tag key 7 before 24
 unfoldable pub taggedReadings : List Bool
 taggedReadings =
     sameBytes (listingText (rfcKey 16) sampleTagKey taggedFile) sampleText

@@ -19,8 +19,8 @@ use Rattle.archive.specs.Find.{findOf, bodyGiven}
 use Rattle.opening.specs.Open.{plainRange, openOf}
 use Rattle.opening.specs.EarlyEnd.{AsFull}
 
--- what checking answers with case 14 by the plain number: without a tag key what it answered before, but 24 where the layout byte is 2;
--- with one, what it would have
+-- what checking answers with case 14 by the plain number: without a tag key what it answered before, but 24 for 7 where the layout byte is
+-- 2; with one, what it would have
 abbrev pub plainCheckOf : List ℕ → List ℕ → List ℕ → Answer
 plainCheckOf key tagKey file = answer (firstOf (checkCasesBy jobNumber key tagKey file)) (countOf file)
 
