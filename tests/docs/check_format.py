@@ -46,7 +46,8 @@ TAGGED_SAYS = [
     "Who sets the layout byte to 1, takes 16 from the whole length and cuts the tag off has an archive of layout 1,",
     "which is accepted where no tag key is given.",
     "such a file is then refused, with 24.",
-    "the same three steps make an archive of layout 1, with the same jobs under the same key.",
+    "the jobs can be read all the same, as an archive of layout 1, with the same jobs under the same key.",
+    "set byte 0 to `01`; take 16 from the number in bytes 16 to 19, the whole length; cut the last 16 bytes off.",
     "The tag key must be a key of its own, under which nothing is encrypted: not the key of this archive, nor of any other.",
     "no check here looks for it, and of another archive's key none could.",
     "There may be no jobs; the file is then 20 bytes long, or 36 in layout 2.",
@@ -231,7 +232,8 @@ def faults_of_samples(page):
 
 def without_tag(file):
     """The page's three steps from layout 2 to layout 1."""
-    return b"\1" + file[1:16] + (len(file) - archive.TAG).to_bytes(4, "big") + file[20 : -archive.TAG]
+    length = int.from_bytes(file[16:20], "big") - 16
+    return b"\1" + file[1:16] + length.to_bytes(4, "big") + file[20:-16]
 
 
 def sample(folder):

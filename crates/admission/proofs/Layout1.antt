@@ -3,7 +3,7 @@
 use mathlib.Core.Path.{_≡_, refl, sym, ap, ap₂, _∙_}
 use mathlib.Core.Bool.{Bool, true, false, not, cond, _&&_, _||_}
 use mathlib.Core.List.{List, [], _++_, append-nil}
-use Prim.Native.Nat.{ℕ, zero, suc, _+_, _-_, _*_}
+use Prim.Native.Nat.{ℕ, zero, suc, _+_, _-_}
 use native.Mathlib.Nat.{add-zero, sub-zero}
 use native.Mathlib.Omega.{arith}
 use borrow.Author.Tests.{eqb-true, ne-eqb, not-false}
@@ -15,7 +15,7 @@ use Rattle.refusals.proofs.Cases.{first-stop, first-pass, first-alike, clear}
 use Rattle.octets.specs.Equality.{sameBytes}
 use Rattle.expansion.specs.KeySchedule.{scheduleOf}
 use Rattle.header.specs.Fields.{layoutOf, isLayout, layoutUnder, tagSize, keyLengthOf, countOf, keyCheckOf, lengthOf, directoryOf}
-use Rattle.header.specs.Fields.{bodiesEnd}
+use Rattle.header.specs.Fields.{directoryEnd, bodiesEnd}
 use Rattle.header.specs.Cases.{frontCases, fieldCases, headerCases}
 use Rattle.header.proofs.Layouts.{tag-none}
 use Rattle.jobnumber.specs.Number.{orderOf}
@@ -63,17 +63,14 @@ module _ (key file : List ℕ) where
       (cond (ltb (length file) least) 11
       (cond (not (sameBytes (keyCheckOf file) (keyCheck (scheduleOf key)))) 12 last))))
 
-  abbrev pub end : ℕ
-  end = 20 + 16 * countOf file
-
   abbrev directory : ℕ → List Case
-  directory limit = directoryCases (directoryOf file) end limit
+  directory limit = directoryCases (directoryOf file) (directoryEnd file) limit
 
   untagged : layoutOf file ≡ 1 → firstOf (directory (bodiesEnd file) ++ wrongTagCases [] file) ≡ firstOf (directory (length file))
   unfolding firstOf
   untagged one =
       let other : layoutOf file ≡ 2 → ⊥ = λ two. omega arith in
-      let p : positive (directory (bodiesEnd file)) ≡ true = directory-positive orderOf (directoryOf file) end (bodiesEnd file) in
+      let p : positive (directory (bodiesEnd file)) ≡ true = directory-positive orderOf (directoryOf file) (directoryEnd file) (bodiesEnd file) in
       let size = tag-none (layoutOf file) other in
       first-alike (directory (bodiesEnd file)) (directory (bodiesEnd file)) (wrongTagCases [] file) [] p p refl
       (λ z. no-tag [] file refl other)
@@ -82,11 +79,11 @@ module _ (key file : List ℕ) where
       ∙ ap (λ (k : ℕ). firstOf (directory k)) (sub-zero (length file))
 
   same-fields : layoutOf file ≡ 1
-      → fields (end + tagSize (layoutOf file)) (firstOf (directory (bodiesEnd file) ++ wrongTagCases [] file))
-      ≡ fields end (firstOf (directory (length file)))
+      → fields (directoryEnd file + tagSize (layoutOf file)) (firstOf (directory (bodiesEnd file) ++ wrongTagCases [] file))
+      ≡ fields (directoryEnd file) (firstOf (directory (length file)))
   same-fields one =
       let other : layoutOf file ≡ 2 → ⊥ = λ two. omega arith in
-      ap₂ fields (ap (λ (k : ℕ). end + k) (tag-none (layoutOf file) other) ∙ add-zero end) (untagged one)
+      ap₂ fields (ap (λ (k : ℕ). directoryEnd file + k) (tag-none (layoutOf file) other) ∙ add-zero (directoryEnd file)) (untagged one)
 
   checking : firstOf (checkCases key [] file) ≡ renumbered file (firstOf (layout1Cases key file))
   unfolding checkCasesBy underKeyCasesBy fileCasesBy headerCases frontCases fieldCases keyCases tagKeyCases goodKey layoutUnder layout1Cases
@@ -96,7 +93,7 @@ module _ (key file : List ℕ) where
 
   layout1-positive : positive (layout1Cases key file) ≡ true
   unfolding layout1Cases positive
-  layout1-positive = directory-positive orderOf (directoryOf file) end (length file)
+  layout1-positive = directory-positive orderOf (directoryOf file) (directoryEnd file) (length file)
 
   -- an archive that passed had layout 1
   passed : firstOf (layout1Cases key file) ≡ 0 → layoutOf file ≡ 1

@@ -14,13 +14,13 @@ use Rattle.octets.specs.Equality.{sameBytes}
 use Rattle.expansion.specs.KeySchedule.{scheduleOf}
 use Rattle.cmac.specs.Tag.{tagUnder}
 use Rattle.header.specs.Fields.{layoutOf, isLayout, layoutUnder, tagSize, countOf, directoryOf}
-use Rattle.header.specs.Fields.{bodiesEnd, tagOf, taggedOf}
+use Rattle.header.specs.Fields.{directoryEnd, bodiesEnd, tagOf, taggedOf}
 use Rattle.header.specs.Cases.{frontCases, fieldCases, headerCases}
 use Rattle.header.proofs.Layouts.{tag-16}
 use Rattle.directory.specs.Check.{directoryCases}
 use Rattle.admission.specs.Check.{tagBytes, wrongTagCases, fileCasesBy, underKeyCasesBy, checkCases, checkCasesBy}
 use Rattle.admission.specs.Layout2.{tagStart, layout2Cases, Layout2WrittenOut}
-use Rattle.admission.proofs.Layout1.{fields, end}
+use Rattle.admission.proofs.Layout1.{fields}
 
 -- the cases up to the layout, which a later case sees only where it is 2
 judged : (k t a b q : Bool) (l x y : ℕ) → (l ≡ 2 → x ≡ y)
@@ -37,15 +37,15 @@ module _ (key tagKey file : List ℕ) where
   -- directory and tag, the bodies ending at n
   abbrev behind : ℕ → ℕ
   behind n =
-      firstOf (directoryCases (directoryOf file) (end key file) n
+      firstOf (directoryCases (directoryOf file) (directoryEnd file) n
       ++ (when (not (sameBytes (tagUnder (scheduleOf tagKey) (take n file)) (drop n file))) 25 ∷ []))
 
   same-fields : layoutOf file ≡ 2
-      → fields key file (end key file + tagSize (layoutOf file)) (behind (bodiesEnd file))
+      → fields key file (directoryEnd file + tagSize (layoutOf file)) (behind (bodiesEnd file))
       ≡ fields key file (36 + 16 * countOf file) (behind (tagStart file))
   same-fields two =
       let size = tag-16 (layoutOf file) two in
-      let least : end key file + tagSize (layoutOf file) ≡ 36 + 16 * countOf file = omega arith in
+      let least : directoryEnd file + tagSize (layoutOf file) ≡ 36 + 16 * countOf file = omega arith in
       ap₂ (fields key file) least (ap (λ (k : ℕ). behind (length file - k)) size)
 
   written-out : (length tagKey ≡ 0 → ⊥) → firstOf (checkCases key tagKey file) ≡ firstOf (layout2Cases key tagKey file)

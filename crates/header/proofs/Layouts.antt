@@ -1,12 +1,9 @@
 -- Laws of the layouts: how many bytes the tag has, and which layout is read under which tag key.
 -- Assumes nothing.
 use mathlib.Core.Path.{_≡_}
-use mathlib.Core.Bool.{Bool, true, false, cond}
 use mathlib.Core.List.{List}
-use Prim.Native.Nat.{ℕ, _≤_}
-use native.Mathlib.Omega.{arith}
+use Prim.Native.Nat.{ℕ}
 use borrow.Author.Tests.{eq-eqb, ne-eqb}
-use lib.Dec.{eqb}
 use lib.ListN.{length}
 use Rattle.header.specs.Fields.{layoutUnder, tagSize}
 
@@ -17,14 +14,6 @@ tag-16 layout e = rw (eq-eqb layout 2 e)
 pub tag-none : (layout : ℕ) → (layout ≡ 2 → ⊥) → tagSize layout ≡ 0
 unfolding tagSize
 tag-none layout h = rw (ne-eqb layout 2 h)
-
-pub tag-most : (layout : ℕ) → tagSize layout ≤ 16
-unfolding tagSize
-tag-most layout = go (eqb layout 2)
-  where
-    go : (b : Bool) → cond b 16 0 ≤ 16
-    go true = omega arith
-    go false = omega arith
 
 pub layout-1 : (tagKey : List ℕ) → length tagKey ≡ 0 → layoutUnder tagKey ≡ 1
 unfolding layoutUnder

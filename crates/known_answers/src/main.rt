@@ -1,10 +1,10 @@
-// Runs the readings of 01, Plate readings, that are not marked P: files on both sides of the limits of checking, under a good key, each
-// good but for what its line names. Prints what checking answered. Then makes each other call of `archive` and `opening` on the sample
-// archive, for jobs that are there and for one that is not, and opens once more into a buffer that is a byte short; and opens ranges, on
-// both sides of the job's end and of the buffer's. Then checks the tagged sample and the other under tag keys that fit and that do not, and
-// makes the same calls on the tagged one. Then searches bare directories, also such as no archive has. Then runs the block of RFC 5794,
-// A.1, by each engine as `roundtrip::run_by` picks it. Then tags the front of the sample archive, and compares tags, under the key and
-// under schedules.
+// Runs the readings of 01, Plate readings, that are not marked P, 24 for 7 in one of them by 02, d: files on both sides of the limits of
+// checking, under a good key, each good but for what its line names. Prints what checking answered. Then makes each other call of `archive`
+// and `opening` on the sample archive, for jobs that are there and for one that is not, and opens once more into a buffer that is a byte
+// short; and opens ranges, on both sides of the job's end and of the buffer's. Then checks the tagged sample and the other under tag keys
+// that fit and that do not, and makes the same calls on the tagged one. Then searches bare directories, also such as no archive has. Then
+// runs the block of RFC 5794, A.1, by each engine as `roundtrip::run_by` picks it. Then tags the front of the sample archive, and compares
+// tags, under the key and under schedules.
 // tests/known_answers/make_expected.py makes the stored output from the model of the archive and from libcrypto. The readings marked P are
 // the one theorem of proofs/Readings.
 use archive::Checked;
@@ -321,8 +321,7 @@ fn tag_bytes() -> [u8; 33] {
     bytes
 }
 
-// The tagged sample under no tag key, under ones that are none, under another and under its own; with its last bit changed, and a bit of a
-// body; and the other sample under a tag key.
+// The tagged sample under no tag key, under ones of a wrong length, under another and under its own; and the other sample under a tag key.
 fn tag_keys(key: &[u8], tag_key: &[u8], file: &[u8], untagged: &[u8]) {
     print_check(b"tagged, no tag key: ", b"", file);
     print_check(b"tagged, 33 bytes of tag key: ", tag_key, file);
@@ -348,6 +347,7 @@ fn bit_changed(at: usize) -> [u8; 73] {
     file
 }
 
+// The tagged sample with a bit changed of its tag, of a body, and of the archive number.
 fn tagged_changes(tag_key: &[u8]) {
     let tag = bit_changed(72);
     print_check(b"tagged, its last bit changed: ", tag_key, &tag);
@@ -565,7 +565,12 @@ fn changed(tag: [u8; 16]) -> [u8; 16] {
 
 // The calls of `cmac`, by the key and by its schedule, and by that with another round count.
 fn sample_tags(key: &[u8], file: &[u8]) {
-    let good = preparation::prepare(key).schedule;
+    let prepared = preparation::prepare(key);
+    let outcome = prepared.outcome;
+    let Outcome::Ready = outcome else {
+        return;
+    };
+    let good = prepared.schedule;
     let keys = good.keys;
     let bad = Schedule { rounds: 13, keys };
     let tag = cmac::tag(key, file).tag;

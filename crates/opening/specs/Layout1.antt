@@ -1,7 +1,7 @@
 -- Without a tag key every call answers what it answered before layout 2 came, but for 24 in place of 7 where the layout byte is 2 (02, d);
--- admission, specs/Layout1, has 01's list and the statement on its number alone. What a call gives besides, the count, the
--- index, the plain bytes, is the same by definition: `countOf`, `indexOf`, `bodyAt` and `plainRange` take no tag key and know no layout.
--- The parts, the buffer and the listing follow from what is answered. The theorem is `without-tag-key` of proofs/Layout1.
+-- admission, specs/Layout1, has 01's list and the statement on its number alone. What a call gives besides, the count, the index, the plain
+-- bytes, is the same by definition: `countOf`, `indexOf`, `bodyAt` and `plainRange` take no tag key and know no layout. The parts, the
+-- buffer and the listing follow from what is answered. The theorem is `without-tag-key` of proofs/Layout1.
 -- Assumes nothing.
 use mathlib.Core.Path.{_≡_}
 use mathlib.Core.List.{List, [], _++_}

@@ -1,4 +1,4 @@
--- `archive::check` meets its contract: the refusal of key or file, or the count.
+-- `archive::check` meets its contract: the refusal of keys or file, or the count.
 -- Assumes nothing.
 use mathlib.Core.Path.{sym, ap, _∙_}
 use borrow.Author.Needs.{needs}

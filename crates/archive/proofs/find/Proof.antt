@@ -1,4 +1,4 @@
--- `archive::find` meets its contract: a refusal of key or file stands; an accepted archive leaves the cases of the number.
+-- `archive::find` meets its contract: a refusal of keys or file stands; an accepted archive leaves the cases of the number.
 -- Assumes nothing.
 use mathlib.Core.Path.{sym, _∙_}
 use borrow.Author.Needs.{needs}

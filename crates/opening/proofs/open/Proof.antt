@@ -1,4 +1,4 @@
--- `opening::open` meets its contract: a refusal of key or file stands; of an accepted archive the range of all the job's bytes is opened.
+-- `opening::open` meets its contract: a refusal of keys or file stands; of an accepted archive the range of all the job's bytes is opened.
 -- Assumes nothing.
 use mathlib.Core.Path.{sym, _∙_}
 use borrow.Author.Needs.{needs}

@@ -1,4 +1,4 @@
--- `opening::open_range` meets its contract: a refusal of key or file stands; an accepted archive leaves the job, the range and the buffer.
+-- `opening::open_range` meets its contract: a refusal of keys or file stands; an accepted archive leaves the job, the range and the buffer.
 -- Assumes nothing.
 use mathlib.Core.Path.{sym, _∙_}
 use borrow.Author.Needs.{needs}
