@@ -70,7 +70,7 @@ module _ (key file : List ℕ) where
   unfolding firstOf
   untagged one =
       let other : layoutOf file ≡ 2 → ⊥ = λ two. omega arith in
-      let p : positive (directory (bodiesEnd file)) ≡ true = directory-positive orderOf (directoryOf file) (directoryEnd file) (bodiesEnd file) in
+      let p : positive (directory (bodiesEnd file)) ≡ true = directory-positive orderOf (directoryOf file) _ (bodiesEnd file) in
       let size = tag-none (layoutOf file) other in
       first-alike (directory (bodiesEnd file)) (directory (bodiesEnd file)) (wrongTagCases [] file) [] p p refl
       (λ z. no-tag [] file refl other)

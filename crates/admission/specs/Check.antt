@@ -30,8 +30,8 @@ keyCheck s = take 8 (encrypted s (replicate 16 255))
 unfoldable pub tagBytes : List ℕ → List ℕ → List ℕ
 tagBytes tagKey bytes = cond (eqb (length tagKey) 0) [] (tagUnder (scheduleOf tagKey) bytes)
 
--- 25: the file's last bytes, where the tag stands, are not the tag of all bytes before them. With no tag key and in layout 1 both sides have
--- no bytes, and it never applies
+-- 25: the file's last bytes, where the tag stands, are not the tag of all bytes before them. With no tag key and in layout 1 both sides
+-- have no bytes, and it never applies
 unfoldable pub wrongTagCases : List ℕ → List ℕ → List Case
 wrongTagCases tagKey file = when (not (sameBytes (tagBytes tagKey (taggedOf file)) (tagOf file))) 25 ∷ []
 
