@@ -46,7 +46,7 @@ TAGGED_SAYS = [
     "Who sets the layout byte to 1, takes 16 from the whole length and cuts the tag off has an archive of layout 1,",
     "which is accepted where no tag key is given.",
     "such a file is then refused, with 24.",
-    "the jobs can be read all the same, as an archive of layout 1, with the same jobs under the same key.",
+    "the jobs can be read all the same, as those of an archive of layout 1 under the same key.",
     "set byte 0 to `01`; take 16 from the number in bytes 16 to 19, the whole length; cut the last 16 bytes off.",
     "bytes 16 to 19 are `00 00 00 49` and become `00 00 00 39`, bytes 57 to 72 go, and what is left is the first archive.",
     "The tag key must be a key of its own, under which nothing is encrypted: not the key of this archive, nor of any other.",

@@ -174,7 +174,7 @@ def writing(says):
 
 
 def reading(says):
-    """A read error is no end of input; only a standard input that is closed counts as empty."""
+    """A read error is no end of input; only a standard input that is closed, or not open for reading, counts as empty."""
     failed = Written(b"", says.could_not_read, 0)
 
     def from_folder(f):

@@ -2,9 +2,9 @@
 // checking, under a good key, each good but for what its line names. Prints what checking answered. Then makes each other call of `archive`
 // and `opening` on the sample archive, for jobs that are there and for one that is not, and opens once more into a buffer that is a byte
 // short; and opens ranges, on both sides of the job's end and of the buffer's. Then checks the tagged sample and the other under tag keys
-// that fit and that do not, and makes the same calls on the tagged one. Then searches bare directories, also such as no archive has. Then
-// runs the block of RFC 5794, A.1, by each engine as `roundtrip::run_by` picks it. Then tags the front of the sample archive, and compares
-// tags, under the key and under schedules.
+// that fit and that do not, and the tagged one with a bit changed, and makes the same calls on it. Then searches bare directories, also
+// such as no archive has. Then runs the block of RFC 5794, A.1, by each engine as `roundtrip::run_by` picks it. Then tags the front of the
+// sample archive, and compares tags, under the key and under schedules.
 // tests/known_answers/make_expected.py makes the stored output from the model of the archive and from libcrypto. The readings marked P are
 // the one theorem of proofs/Readings.
 use archive::Checked;
