@@ -8,7 +8,7 @@ use native.Mathlib.Omega.{arith}
 use borrow.Author.Tests.{not-false}
 use lib.ListN.{length}
 use Rattle.refusals.specs.Cases.{firstOf}
-use Rattle.refusals.specs.Shared.{goodRounds, keyCases, tagKeyCases}
+use Rattle.refusals.specs.Shared.{goodKey, goodRounds, keyCases, tagKeyCases}
 use Rattle.refusals.proofs.Cases.{first-none, one-passes, clear}
 use Rattle.refusals.proofs.Shared.{key-positive, key-good, tag-key-positive, tag-key-some}
 use Rattle.octets.proofs.Equality.{same-eq, eq-same}
@@ -58,8 +58,14 @@ module _ (order : List ℕ → ℕ) (key tagKey file : List ℕ) (e : firstOf (c
       first-none (headerCases (layoutUnder tagKey) (length key) (keyCheck (scheduleOf key)) file) _ (header-positive _ _ _ file)
       (tag-stage .0)
 
+  pub accepted-key : goodKey (length key) ≡ true
+  accepted-key = key-good (length key) (key-stage .0)
+
+  pub accepted-tag-key : firstOf (tagKeyCases (length tagKey)) ≡ 0
+  accepted-tag-key = tag-key-stage .0
+
   pub accepted-rounds : goodRounds (scheduleOf key .rounds) ≡ true
-  accepted-rounds = good-rounds key (key-good (length key) (key-stage .0))
+  accepted-rounds = good-rounds key accepted-key
 
   -- of the tag key too, where there is one
   pub accepted-tag-rounds : (length tagKey ≡ 0 → ⊥) → goodRounds (scheduleOf tagKey .rounds) ≡ true

@@ -3,19 +3,18 @@
 -- Assumes nothing.
 use mathlib.Core.Path.{_≡_, refl, sym, ap, ap₂, _∙_}
 use mathlib.Core.Bool.{Bool, true, not, _&&_}
-use mathlib.Core.List.{List, [], _∷_, _++_, append-assoc, append-nil}
+use mathlib.Core.List.{List, [], _∷_, _++_, append-assoc}
 use Prim.Native.Nat.{ℕ, _≤_}
 use native.Mathlib.Omega.{arith}
 use denote.Enum.Declared.{tagOf}
 use types.Run.{OneOf}
 use lib.Dec.{eqb}
-use lib.ListN.{length, take, drop-of-length-le}
+use lib.ListN.{length}
 use Rattle.refusals.specs.Cases.{firstOf, positive, lacks}
 use Rattle.refusals.specs.Shared.{keyCases, tagKeyCases}
 use Rattle.refusals.proofs.Booleans.{both-true}
 use Rattle.refusals.proofs.Shared.{key-positive, key-lacks, tag-key-positive, tag-key-lacks}
 use Rattle.refusals.proofs.Cases.{first-stop, first-pass, positive-append, lacks-append}
-use Rattle.octets.specs.Parts.{overwritten}
 use Rattle.circuit.specs.declared.Schedule.{Schedule}
 use Rattle.expansion.specs.Outcomes.{number}
 use Rattle.expansion.specs.KeySchedule.{scheduleOf, Prepares}
@@ -33,13 +32,6 @@ use Rattle.admission.specs.Check.{keyCheck, wrongTagCases, fileCasesBy, 
 -- m is the number of no case of checking: computed where m is a numeral
 abbrev pub notOfCheck : ℕ → Bool
 notOfCheck m = (not (eqb 1 m) && true) && ((notOfHeader m && notOfDirectory m) && (not (eqb 25 m) && true))
-
--- the first eight bytes of a block, copied over eight others
-pub front-copied : (b xs : List ℕ) → length b ≡ 16 → length xs ≡ 8 → overwritten b xs ≡ take 8 b
-unfolding overwritten
-front-copied b xs eb ex =
-    let past : length xs ≤ length b = omega arith in
-    ap₂ (λ (u v : List ℕ). u ++ v) (ap (λ (n : ℕ). take n b) ex) (drop-of-length-le xs past) ∙ append-nil (take 8 b)
 
 -- ---- group by group
 

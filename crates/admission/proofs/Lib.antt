@@ -3,3 +3,4 @@ pub mod Tags
 pub mod Accepted
 pub mod Layout1
 pub mod Layout2
+pub mod KeyCheck

@@ -58,13 +58,17 @@ module _ (file : List ℕ) (two : layoutOf file ≡ 2) (long : 16 ≤ length fil
 
 -- ---- what it is compared with
 
+-- with no tag key there is none
+pub tag-absent : (tagKey bytes : List ℕ) → length tagKey ≡ 0 → tagBytes tagKey bytes ≡ []
+unfolding tagBytes
+tag-absent tagKey bytes e = rw (eq-eqb (length tagKey) 0 e)
+
 -- a file without a tag has none that differs
 pub no-tag : (tagKey file : List ℕ) → length tagKey ≡ 0 → (layoutOf file ≡ 2 → ⊥) → firstOf (wrongTagCases tagKey file) ≡ 0
-unfolding wrongTagCases tagBytes tagOf
+unfolding wrongTagCases tagOf
 no-tag tagKey file e h =
     let past : length file ≤ bodiesEnd file = omega (arith, tag-none (layoutOf file) h) in
-    let none : tagBytes tagKey (taggedOf file) ≡ [] = rw (eq-eqb (length tagKey) 0 e) in
-    one-passes _ 25 (ap not (eq-same _ _ (none ∙ sym (drop-of-length-le file past))))
+    one-passes _ 25 (ap not (eq-same _ _ (tag-absent tagKey (taggedOf file) e ∙ sym (drop-of-length-le file past))))
 
 -- under a tag key it is CMAC's
 pub tag-under : (tagKey bytes : List ℕ) → (length tagKey ≡ 0 → ⊥) → tagBytes tagKey bytes ≡ tagUnder (scheduleOf tagKey) bytes

@@ -10,7 +10,8 @@ use Prim.Native.Nat.{ℕ}
 use lib.Dec.{eqb}
 use lib.ListN.{length, take, replicate}
 use Rattle.refusals.specs.Cases.{Case, when, firstOf}
-use Rattle.refusals.specs.Shared.{keyCases, tagKeyCases}
+use Rattle.refusals.specs.Answers.{unlessRefused}
+use Rattle.refusals.specs.Shared.{keyCases, tagKeyCases, roundsCases}
 use Rattle.octets.specs.Equality.{sameBytes}
 use Rattle.circuit.specs.Run.{encrypted}
 use Rattle.circuit.specs.declared.Schedule.{Schedule}
@@ -25,6 +26,10 @@ use Rattle.admission.specs.declared.Admitted.{Admitted}
 -- the key check of a schedule: the first eight bytes of the block of sixteen `ff` through the cipher
 unfoldable pub keyCheck : Schedule → List ℕ
 keyCheck s = take 8 (encrypted s (replicate 16 255))
+
+-- the contract of handing it out, of any schedule: eight zero bytes where the round count is refused
+unfoldable pub keyCheckUnder : Schedule → List ℕ
+keyCheckUnder s = unlessRefused (firstOf (roundsCases (s .rounds))) (keyCheck s) (replicate 8 0)
 
 -- the tag of bytes under a tag key: CMAC; no bytes where there is no tag key
 unfoldable pub tagBytes : List ℕ → List ℕ → List ℕ

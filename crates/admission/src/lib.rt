@@ -1,5 +1,5 @@
-// Admission: the whole check of an archive under a key and a tag key, with which every call on an archive begins. Each key is prepared
-// once.
+// Admission: the whole check of an archive under a key and a tag key, with which every call on an archive begins, and the key check, by
+// which it tells the key. Each key is prepared once.
 use circuit::Schedule;
 use expansion::Outcome;
 use octets::part;
@@ -10,7 +10,7 @@ ghost use lib.ListN.{length};
 ghost use Rattle.refusals.specs.Cases.{firstOf};
 ghost use Rattle.refusals.specs.Shared.{goodRounds};
 ghost use Rattle.header.specs.Fields.{layoutOf};
-ghost use Rattle.admission.specs.Check.{keyCheck, fileCases, underKeyCases, Admits};
+ghost use Rattle.admission.specs.Check.{keyCheck, keyCheckUnder, fileCases, underKeyCases, Admits};
 ghost use Rattle.admission.specs.Internal.{tagCasesUnder};
 
 // What the whole check comes to: a refusal's number or 0, and the schedule of the key.
@@ -29,6 +29,16 @@ fn key_check(schedule: Schedule) -> [u8; 8]
     let mut check = [0u8; 8];
     octets::copy(&block, &mut check);
     check
+}
+
+// The key check of a schedule, for who writes an archive; eight zero bytes for a bad round count.
+pub fn key_check_under(schedule: Schedule) -> [u8; 8]
+    ensures { λ r. ⌜ r ≡ keyCheckUnder schedule ⌝ }
+{
+    if refusals::rounds(schedule.rounds) != 0 {
+        return [0u8; 8];
+    }
+    key_check(schedule)
 }
 
 // The refusal of a file that has to be of a layout, but for its tag, or 0.

@@ -1,6 +1,7 @@
 -- Finding a job: the cases of the number after those of checking, and what the answer tells.
 -- Assumes nothing.
 use mathlib.Core.Path.{_≡_, refl, sym, ap, _∙_, subst}
+use mathlib.Core.Bool.{true}
 use mathlib.Core.List.{List, []}
 use Prim.Native.Nat.{ℕ, zero, suc, _<_, _≤_}
 use native.Mathlib.Omega.{arith}
@@ -12,14 +13,14 @@ use Rattle.refusals.proofs.Cases.{first-stop, first-pass, first-none, first-lac
 use Rattle.refusals.proofs.Answers.{answer-gives, answer-number, answer-first, part-refused, part-gives}
 use Rattle.octets.specs.Parts.{liesAt}
 use Rattle.header.specs.Fields.{directoryOf}
-use Rattle.jobnumber.specs.Number.{orderOf}
-use Rattle.directory.specs.Entries.{entries}
+use Rattle.jobnumber.specs.Number.{isJobNumber, orderOf}
+use Rattle.directory.specs.Entries.{entries, entryAt, numberOf}
 use Rattle.directory.specs.Search.{indexOf, searchCases}
 use Rattle.directory.proofs.Accepted.{sound-directories}
 use Rattle.directory.proofs.Searching.{some-inside, some-bears}
-use Rattle.directory.proofs.EarlyEnd.{none-bears}
+use Rattle.directory.proofs.EarlyEnd.{search-bearer, none-bears}
 use Rattle.bodies.specs.Bodies.{numberCases, lookupOf, bodyStart, BodyPart}
-use Rattle.bodies.proofs.Numbers.{number-search, number-missing}
+use Rattle.bodies.proofs.Numbers.{number-search, number-missing, number-asked}
 use Rattle.admission.specs.Check.{checkCases}
 use Rattle.admission.proofs.Checking.{check-positive, check-lacks}
 use Rattle.admission.proofs.Accepted.{accepted-directory, accepted-entries, accepted-within}
@@ -39,6 +40,13 @@ module _ (key tagKey file number : List ℕ) where
   find-asked e =
       ap (λ (k : ℕ). answer k (indexOf (directoryOf file) number))
       (sym (first-pass (checkCases key tagKey file) (numberCases file number) (check-positive orderOf key tagKey file) e))
+
+  -- of an accepted archive, the entry that bears a job number is found
+  pub find-bearer : firstOf (checkCases key tagKey file) ≡ 0 → isJobNumber number ≡ true → (i : ℕ) → i < entries (directoryOf file)
+      → numberOf (entryAt (directoryOf file) i) ≡ number → findOf key tagKey file number ≡ gives i
+  find-bearer e good i l q =
+      let ascending = sound-directories _ _ _ (accepted-directory orderOf key tagKey file e) .ascending in
+      sym (find-asked e) ∙ number-asked file number good ∙ sym (search-bearer (directoryOf file) number ascending i l q)
 
   found-stages : firstOf (findCases key tagKey file number) ≡ 0
       → (firstOf (checkCases key tagKey file) ≡ 0) × (firstOf (numberCases file number) ≡ 0)

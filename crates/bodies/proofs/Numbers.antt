@@ -15,7 +15,7 @@ use Rattle.refusals.proofs.Cases.{clear, first-none}
 use Rattle.refusals.proofs.Answers.{answer-gives}
 use Rattle.header.specs.Fields.{directoryOf}
 use Rattle.jobnumber.specs.Number.{digits, isJobNumber}
-use Rattle.directory.specs.Search.{searchCases}
+use Rattle.directory.specs.Search.{searchCases, searchOf}
 use Rattle.bodies.specs.Bodies.{numberCases, lookupOf}
 
 module _ (file number : List ℕ) where
@@ -45,3 +45,8 @@ module _ (file number : List ℕ) where
       let none = answer-gives _ _ i (sym e) .0 in
       let good = not-false _ (clear (numberCases file number) number-positive none 0) in
       eqb-true (length number) 8 (both-true (eqb (length number) 8) (digits number) good .0)
+
+  -- of a job number the search is left
+  pub number-asked : isJobNumber number ≡ true → lookupOf file number ≡ searchOf (directoryOf file) number
+  unfolding numberCases firstOf
+  number-asked e = rw e

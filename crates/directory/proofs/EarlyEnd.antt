@@ -9,7 +9,8 @@ use borrow.Author.Tests.{ltb-true, ltb-false}
 use lib.Dec.{eqb, ltb}
 use lib.ListN.{take}
 use Rattle.refusals.specs.Cases.{when, firstOf}
-use Rattle.refusals.specs.Answers.{answer}
+use Rattle.refusals.specs.Answers.{gives, answer}
+use Rattle.refusals.proofs.Booleans.{not-yes}
 use Rattle.octets.specs.Below.{firstIndex}
 use Rattle.octets.proofs.Below.{index-le, index-hit, index-before, index-most}
 use Rattle.octets.proofs.Parts.{part-same}
@@ -78,7 +79,17 @@ early-end c d number k lc ld p same =
 -- ---- the full search
 
 module _ (d number : List ℕ) (ascending : (i j : ℕ) → i < j → j < entries d → orderOf (entryAt d i) < orderOf (entryAt d j)) where
-  -- where numbers ascend, no entry before one that bears the number is above it
+  -- where numbers ascend, no entry before one that bears the number is above it, or bears it too
+  bearer-first : (i : ℕ) → i < entries d → bears d number i ≡ true → (k : ℕ) → k < i → endsAt d number k ≡ false
+  bearer-first i inside here k l =
+      let place = same-place d number i here in
+      let below = ascending k i l inside in
+      goes-on d number k (not-yes (bears d number k) (λ b. omega (arith, same-place d number k b))) (not-above d number k (omega arith))
+
+  -- so it is the entry that the search comes to
+  pub search-bearer : (i : ℕ) → i < entries d → numberOf (entryAt d i) ≡ number → gives i ≡ searchOf d number
+  search-bearer i l q = let here = bearing d number i q in search-at d number i l (bearer-first i l here) here
+
   pub index-full : indexOf d number ≡ fullIndexOf d number
   unfolding fullIndexOf
   index-full = go (ltb f (entries d)) refl
@@ -86,21 +97,14 @@ module _ (d number : List ℕ) (ascending : (i j : ℕ) → i < j → j < entrie
       f : ℕ
       f = firstIndex (bears d number) (entries d)
 
-      before : (k : ℕ) → k < f → bears d number k ≡ false
-      before = index-before (bears d number) (entries d)
-
       go : (b : Bool) → ltb f (entries d) ≡ b → indexOf d number ≡ f
       go true e =
           let inside = ltb-true f (entries d) e in
           let here = index-hit (bears d number) (entries d) inside in
-          let place = same-place d number f here in
-          let on : (k : ℕ) → k < f → endsAt d number k ≡ false =
-          λ k l. goes-on d number k (before k l) (not-above d number k (omega (arith, ascending k f l inside)))
-          in
-          index-found d number f inside on here
+          index-found d number f inside (bearer-first f inside here) here
       go false e =
           let none : f ≡ entries d = omega (arith, ltb-false f (entries d) e, index-le (bears d number) (entries d)) in
-          index-nowhere d number (λ k l. before k (omega arith)) ∙ sym none
+          index-nowhere d number (λ k l. index-before (bears d number) (entries d) k (omega arith)) ∙ sym none
 
   -- so 19 says that none bears it
   pub none-bears : firstOf (searchCases d number) ≡ 19 → (i : ℕ) → i < entries d → numberOf (entryAt d i) ≡ number → ⊥

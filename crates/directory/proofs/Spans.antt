@@ -14,6 +14,7 @@ use Rattle.refusals.proofs.Cases.{first-stop, first-alike, items-stop, items-al
 use Rattle.octets.specs.Below.{firstIndex}
 use Rattle.octets.proofs.Below.{index-most, index-hit, index-before}
 use Rattle.jobnumber.specs.Number.{digits, jobNumber, orderOf}
+use Rattle.jobnumber.specs.Ascending.{ascendsIn}
 use Rattle.jobnumber.proofs.Order.{both-old, both-recent, old-recent}
 use Rattle.directory.specs.Entries.{entries, entryAt}
 use Rattle.directory.specs.Check.{ascendsBy, entryCasesBy, directoryCases, directoryCasesBy}
@@ -26,13 +27,13 @@ use Rattle.directory.proofs.Accepted.{entry-good, directory-none, direc
 module _ (o p : List ℕ → ℕ) (d : List ℕ) where
   ascends-alike : (i : ℕ) → ltb (o (entryAt d i)) (o (entryAt d (suc i))) ≡ ltb (p (entryAt d i)) (p (entryAt d (suc i)))
       → ascendsBy o d (suc i) ≡ ascendsBy p d (suc i)
-  unfolding ascendsBy
+  unfolding ascendsIn
   ascends-alike i e =
       let q : suc i - 1 ≡ i = omega arith in
       rw (ne-eqb (suc i) 0 (λ z. omega arith), q) e
 
   ascends-first : ascendsBy o d 0 ≡ ascendsBy p d 0
-  unfolding ascendsBy
+  unfolding ascendsIn
   ascends-first = refl
 
   module _ (from limit : ℕ) where
@@ -88,7 +89,7 @@ module _ (o p : List ℕ → ℕ) (d : List ℕ) (from limit m : ℕ) (l : suc m
       same (suc i) k = ascends-alike p o d i (agree i (omega arith))
 
   not-ascending : ascendsBy p d (suc m) ≡ false
-  unfolding ascendsBy
+  unfolding ascendsIn
   not-ascending =
       let q : suc m - 1 ≡ m = omega arith in
       rw (ne-eqb (suc m) 0 (λ z. omega arith), q) (le-ltb _ _ falls)

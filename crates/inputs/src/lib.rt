@@ -1,6 +1,6 @@
 // What the programs read: a file by its name, and standard input. An error is told from the end of the input.
 ghost use mathlib.Core.Path.{_≡_};
-ghost use Prim.Native.Nat.{_≤_, min};
+ghost use Prim.Native.Nat.{_≤_, _<_, min};
 ghost use lib.ListN.{length};
 ghost use Rattle.io.specs.Counts.{Counts};
 ghost use Rattle.inputs.specs.Filled.{Filled, FailsShort};
@@ -141,23 +141,107 @@ fn is_missing(name: &[u8]) -> bool {
     !is_link(name)
 }
 
+// Reads a file to its end, or as much of it as the buffer holds, or until a read fails, which it tells. A file that is missing counts as
+// empty; one that cannot be opened counts as one whose first read failed.
+pub fn named_input(name: &[u8], buf: &mut [u8]) -> Input
+    ensures { λ r. ⌜ Filled (now (buf .entry)) (r .length) (now (buf .exit)) ⌝ }
+{
+    let fd = os::open_read(name);
+    if fd < 0 {
+        let failed = !is_missing(name);
+        return Input { length: 0, failed };
+    }
+    let input = read_all(fd, buf);
+    libc::close(fd);
+    input
+}
+
 // Reads a file to its end, or as much of it as the buffer holds, and answers how many bytes that is. A file that is missing counts as
 // empty; one that cannot be read counts as one that fills the buffer, whatever was read of it. So a caller lends one byte more than the
 // longest file that it takes, and never takes a file for one that was read to its end when it was not.
 pub fn named_file(name: &[u8], buf: &mut [u8]) -> usize
     ensures { λ r. ⌜ Filled (now (buf .entry)) r (now (buf .exit)) ⌝ }
 {
-    let fd = os::open_read(name);
-    if fd < 0 {
-        if is_missing(name) {
-            return 0;
-        }
-        return buf.len();
-    }
-    let input = read_all(fd, buf);
-    libc::close(fd);
+    let input = named_input(name, buf);
     if input.failed {
         return buf.len();
     }
     input.length
+}
+
+// What was read of a file: its first bytes, how many more it has, by the remainder modulo 12, and whether a read failed.
+pub struct Counted {
+    pub length: usize,
+    pub beyond: usize,
+    pub failed: bool,
+}
+
+// How many chunks are counted, more than any disk has; a file that is longer counts as one that cannot be read.
+const CHUNKS: usize = 4294967296;
+
+// Reads to the end, and answers how many bytes that were, by the remainder modulo 12, which divides a chunk.
+fn count_rest(fd: i32) -> Input
+    ensures { λ r. ⌜ r .length < 12 ⌝ }
+{
+    let mut chunk = [0u8; 4092];
+    let mut chunks: usize = 0;
+    while chunks < CHUNKS {
+        let input = read_all(fd, &mut chunk);
+        let n = input.length;
+        if n < 4092 {
+            let failed = input.failed;
+            return Input {
+                length: n % 12,
+                failed,
+            };
+        }
+        chunks += 1;
+    }
+    Input {
+        length: 0,
+        failed: true,
+    }
+}
+
+// Reads a file into a buffer until it is full or the file ends or a read fails, and then counts what is beyond.
+fn read_counted(fd: i32, buf: &mut [u8]) -> Counted
+    ensures { λ r. ⌜ Filled (now (buf .entry)) (r .length) (now (buf .exit)) ⌝ }
+    ensures { λ r. ⌜ r .beyond < 12 ⌝ }
+{
+    let input = read_all(fd, buf);
+    let length = input.length;
+    if length < buf.len() {
+        let failed = input.failed;
+        return Counted {
+            length,
+            beyond: 0,
+            failed,
+        };
+    }
+    let rest = count_rest(fd);
+    Counted {
+        length,
+        beyond: rest.length,
+        failed: rest.failed,
+    }
+}
+
+// Reads a file of lines of twelve bytes to its end, however long it is: its first bytes into the buffer, and of the rest how many bytes
+// they are, by the remainder. A file that is missing counts as empty; one that cannot be opened counts as one whose first read failed.
+pub fn counted_file(name: &[u8], buf: &mut [u8]) -> Counted
+    ensures { λ r. ⌜ Filled (now (buf .entry)) (r .length) (now (buf .exit)) ⌝ }
+    ensures { λ r. ⌜ r .beyond < 12 ⌝ }
+{
+    let fd = os::open_read(name);
+    if fd < 0 {
+        let failed = !is_missing(name);
+        return Counted {
+            length: 0,
+            beyond: 0,
+            failed,
+        };
+    }
+    let counted = read_counted(fd, buf);
+    libc::close(fd);
+    counted
 }

@@ -32,6 +32,13 @@ all-each p n h i l = go (p i) refl
     go true e = e
     go false e = absurd (true-false (sym h ∙ all-no p n i l e))
 
+-- tests that come out alike
+pub all-same : (p q : ℕ → Bool) (n : ℕ) → ((k : ℕ) → k < n → p k ≡ q k) → allBelow p n ≡ allBelow q n
+unfolding allBelow
+all-same p q zero h = refl
+all-same p q (suc n) h =
+    rw (h zero (omega arith), all-same (λ (k : ℕ). p (suc k)) (λ (k : ℕ). q (suc k)) n (λ k l. h (suc k) (omega arith)))
+
 -- ---- at the first
 
 pub index-at : (p : ℕ → Bool) (n i : ℕ) → i < n → ((k : ℕ) → k < i → p k ≡ false) → p i ≡ true → firstIndex p n ≡ i

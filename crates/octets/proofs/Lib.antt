@@ -5,5 +5,6 @@ pub mod Test
 pub mod Fill
 pub mod Numbers
 pub mod Parts
+pub mod Rows
 pub mod Laying
 pub mod Laws

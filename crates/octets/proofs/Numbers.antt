@@ -1,11 +1,12 @@
--- Numbers written in bytes and read back, and bytes read as a number and written again.
+-- Numbers written in bytes and read back, bytes read as a number and written again, and parts of bytes.
 -- Assumes nothing.
 use mathlib.Core.Path.{_≡_, refl}
-use mathlib.Core.List.{List, _∷_, _++_}
-use Prim.Native.Nat.{ℕ, suc, _+_, _*_, _/_, _%_, _<_, _≤_}
+use mathlib.Core.List.{List, [], _∷_, _++_}
+use Prim.Native.Nat.{ℕ, zero, suc, _+_, _*_, _/_, _%_, _<_, _≤_}
+use native.Mathlib.Nat.{add-zero}
 use native.Mathlib.Omega.{arith}
 use lib.ListN.{length, getD, take, drop}
-use lib.Seq.{drop-cons}
+use lib.Seq.{getD-drop, drop-cons}
 use Rattle.octets.specs.Numbers.{Octets, be16, be32, bytes16, bytes32}
 
 -- ---- written, then read
@@ -24,9 +25,13 @@ read32 n rest l =
     let three : n / 16777216 ≡ n / 256 / 256 / 256 = omega arith in
     rw (two, three) (digits n (n / 256) (n / 256 / 256) (n / 256 / 256 / 256) (omega arith) (omega arith) (omega arith) (omega arith))
 
+-- the number at a place is that at the front of what is there
+pub be32-at : (s : List ℕ) (at : ℕ) → be32 s at ≡ be32 (drop at s) 0
+be32-at s at = rw (getD-drop at s 0 0, getD-drop at s 1 0, getD-drop at s 2 0, getD-drop at s 3 0, add-zero at)
+
 -- ---- read, then written
 
-next : (s : List ℕ) (k at then : ℕ) → then ≡ suc at → at < length s → take (suc k) (drop at s) ≡ getD s at 0 ∷ take k (drop then s)
+pub next : (s : List ℕ) (k at then : ℕ) → then ≡ suc at → at < length s → take (suc k) (drop at s) ≡ getD s at 0 ∷ take k (drop then s)
 next s k at then e l = rw (drop-cons s at 0 l, e) refl
 
 module _ (s : List ℕ) (octets : Octets s) where
@@ -55,3 +60,17 @@ module _ (s : List ℕ) (octets : Octets s) where
       let t₂ = next s 1 (at + 2) (at + 3) (omega arith) (omega arith) in
       let t₃ = next s 0 (at + 3) (at + 4) (omega arith) (omega arith) in
       cc
+
+-- ---- parts of bytes are bytes
+
+octets-drop : (n : ℕ) (s : List ℕ) → Octets s → Octets (drop n s)
+octets-drop n s o j = rw (getD-drop n s j 0) (o (n + j))
+
+octets-take : (n : ℕ) (s : List ℕ) → Octets s → Octets (take n s)
+octets-take zero s o j = omega arith
+octets-take (suc n) [] o j = omega arith
+octets-take (suc n) (x ∷ s) o zero = o zero
+octets-take (suc n) (x ∷ s) o (suc j) = octets-take n s (λ k. o (suc k)) j
+
+pub octets-part : (s : List ℕ) → Octets s → (at n : ℕ) → Octets (take n (drop at s))
+octets-part s o at n = octets-take n (drop at s) (octets-drop at s o)

@@ -52,6 +52,11 @@ pub overwritten-front : (s xs : List ℕ) → length s ≤ length xs → overwri
 unfolding overwritten
 overwritten-front s xs h = ap (λ (l : List ℕ). l ++ drop (length s) xs) (take-all (length xs) s h)
 
+-- over no more bytes than s has, its front takes their place
+pub overwritten-cut : (s xs : List ℕ) → length xs ≤ length s → overwritten s xs ≡ take (length xs) s
+unfolding overwritten
+overwritten-cut s xs h = ap (λ (l : List ℕ). take (length xs) s ++ l) (drop-of-length-le xs h) ∙ append-nil (take (length xs) s)
+
 -- ---- where the loop that copies ends: with the bytes, or with the buffer
 
 pub copied-all : (s xs out : List ℕ) (j : ℕ) → out ≡ filled s xs j → j ≡ length s → j ≤ length xs → out ≡ overwritten s xs

@@ -1,6 +1,6 @@
 -- The shared cases at each outcome of their tests, and what a good round count is good for.
 -- Assumes nothing.
-use mathlib.Core.Path.{_≡_, refl, ap}
+use mathlib.Core.Path.{_≡_, refl, sym, ap}
 use mathlib.Core.Bool.{Bool, true, false, not, _&&_, _||_}
 use mathlib.Core.List.{[], _∷_}
 use Prim.Native.Nat.{ℕ, _%_, _≤_, _<_}
@@ -9,6 +9,7 @@ use borrow.Author.Tests.{eqb-true, eq-eqb, ne-eqb, lt-ltb, le-ltb}
 use lib.Dec.{eqb}
 use Rattle.refusals.specs.Cases.{when, firstOf, positive, lacks}
 use Rattle.refusals.specs.Shared.{goodKey, keyCases, tagKeyCases, directionCases, goodRounds, roundsCases, wholeCases}
+use Rattle.refusals.proofs.Booleans.{true-false}
 use Rattle.refusals.proofs.Cases.{one-applies, one-passes}
 
 -- ---- 1
@@ -43,6 +44,17 @@ key-bad n h = by-case (goodKey n) refl
     by-case : (a : Bool) → goodKey n ≡ a → goodKey n ≡ false
     by-case true p = absurd (h (key-0 n p))
     by-case false p = p
+
+-- a good key has at most 32 bytes
+pub key-most : (n : ℕ) → goodKey n ≡ true → n ≤ 32
+unfolding goodKey
+key-most n e = by-case (eqb n 16) refl (eqb n 24) refl (eqb n 32) refl
+  where
+    by-case : (a : Bool) → eqb n 16 ≡ a → (b : Bool) → eqb n 24 ≡ b → (c : Bool) → eqb n 32 ≡ c → n ≤ 32
+    by-case true p b q c r = omega (arith, eqb-true n 16 p)
+    by-case false p true q c r = omega (arith, eqb-true n 24 q)
+    by-case false p false q true r = omega (arith, eqb-true n 32 r)
+    by-case false p false q false r = absurd (true-false (sym (rw (p, q, r) at e)))
 
 -- ---- 1 of a tag key
 

@@ -3,12 +3,13 @@
 use mathlib.Core.Path.{refl, ap, _∙_}
 use mathlib.Core.List.{List}
 use Prim.Native.Nat.{ℕ}
+use native.Mathlib.Omega.{arith}
 use lib.ListN.{replicate}
 use borrow.Author.Needs.{needs}
 use Rattle.octets.specs.Parts.{overwritten}
+use Rattle.octets.proofs.Parts.{overwritten-cut}
 use Rattle.circuit.proofs.Runs.{length-encrypted, one-block}
 use Rattle.admission.specs.Check.{keyCheck}
-use Rattle.admission.proofs.Checking.{front-copied}
 use Rattle.admission.proofs.key_check.Statement.{statement}
 use Rattle.admission.proofs.key_check.Tie as tie
 
@@ -34,7 +35,7 @@ returns c =
     let s = ran .before .before in
     c .before .copy .ensures
     ∙ ap (λ (b : List ℕ). overwritten b (replicate 8 0)) (one-block _ _ _ _ (s .pre) refl (ran .run .ensures))
-    ∙ front-copied _ (replicate 8 0) (length-encrypted (s .args .schedule) (replicate 16 255) refl) refl
+    ∙ overwritten-cut _ (replicate 8 0) (omega (arith, length-encrypted (s .args .schedule) (replicate 16 255) refl))
 
 pub key-check-spec : {M : Type 1} → statement M
 key-check-spec =

@@ -1,0 +1,5 @@
+pub mod Seal
+pub mod Internal
+pub mod Opens
+pub mod Rebuilds
+pub mod Long

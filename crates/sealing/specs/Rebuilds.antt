@@ -1,0 +1,41 @@
+-- "an accepted archive rebuilt from its own jobs, under the same key, with its own archive number and its key length on the sheet, must come
+-- out byte for byte" (02, a), in both layouts, "rebuilding under the same tag key" (02, d). The theorem is `seal-rebuilds` of
+-- proofs/Rebuilds.
+-- Assumes nothing.
+use mathlib.Core.Path.{_≡_}
+use mathlib.Core.List.{List, [], _∷_, _++_}
+use Prim.Native.Nat.{ℕ, _≤_}
+use lib.ListN.{length, take, drop}
+use Rattle.refusals.specs.Answers.{Answer, gives}
+use Rattle.octets.specs.Numbers.{Octets, bytes32}
+use Rattle.blocks.specs.Blocks.{row}
+use Rattle.expansion.specs.KeySchedule.{scheduleOf}
+use Rattle.header.specs.Fields.{countOf, archiveNumber, directoryOf}
+use Rattle.directory.specs.Entries.{entryAt, numberOf, sizeOf}
+use Rattle.archive.specs.Check.{checkOf}
+use Rattle.opening.specs.Open.{plainOf}
+use Rattle.sheet.specs.Sheet.{keySizeOf}
+use Rattle.sealing.specs.Seal.{Seals}
+
+-- the line of entry i, and a sheet of the file's own jobs with k for its first byte
+abbrev pub lineOf : List ℕ → ℕ → List ℕ
+lineOf file i = numberOf (entryAt (directoryOf file) i) ++ bytes32 (sizeOf (entryAt (directoryOf file) i))
+
+unfoldable pub sheetOf : ℕ → List ℕ → List ℕ
+sheetOf k file = k ∷ (archiveNumber file ++ row (lineOf file) (countOf file))
+
+-- the plain bodies that opening gives, end to end
+unfoldable pub plainsOf : List ℕ → List ℕ → List ℕ
+plainsOf key file = row (λ (i : ℕ). plainOf (scheduleOf key) file (numberOf (entryAt (directoryOf file) i))) (countOf file)
+
+-- what a call on these answers and leaves
+pub record Rebuilds (file before : List ℕ) (a : Answer) (after : List ℕ) : Type 0 where
+  pub answered : a ≡ gives (length file)
+  pub bytes : after ≡ file ++ drop (length file) before
+
+-- a file of bytes that is accepted under a key and a tag key; a key file that begins with the key; a first byte that means the key's length;
+-- a buffer long enough; and any call that meets the contract of sealing
+abbrev pub SealRebuilds : Type 0
+SealRebuilds = (key tagKey file keyFile : List ℕ) (n k : ℕ) (before : List ℕ) (a : Answer) (after : List ℕ) → Octets file
+    → checkOf key tagKey file ≡ gives n → take (length key) keyFile ≡ key → keySizeOf k ≡ length key → length file ≤ length before
+    → Seals keyFile tagKey (sheetOf k file) (plainsOf key file) before a after → Rebuilds file before a after
