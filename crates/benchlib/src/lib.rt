@@ -1,14 +1,16 @@
-// Calls that `libaria.a` does not export, for the bench of host/ and the tests alone: counter mode under a key, and checking an archive and
-// opening a job of it, with one number for the answer.
+// Calls that `libaria.a` does not export, for the bench of host/ and the tests alone: counter mode under a key, checking an archive, opening
+// a job of it and sealing one, with one number for the answer.
 use archive::Checked;
 use expansion::Outcome;
 use opening::Opened;
+use sealing::Sealed;
 ghost use mathlib.Core.Path.{_≡_};
 ghost use Rattle.refusals.specs.Cases.{firstOf};
 ghost use Rattle.admission.specs.Check.{checkCases};
 ghost use Rattle.opening.specs.Open.{jobSize, openedAs};
 ghost use Rattle.benchlib.specs.Bench.{twelve, AppliedUnderKey};
 ghost use Rattle.benchlib.specs.Opening.{refusalIn, BenchOpens};
+ghost use Rattle.benchlib.specs.Sealing.{BenchSeals};
 
 // The first twelve bytes, zero where there are fewer.
 fn first_twelve(bytes: &[u8]) -> [u8; 12]
@@ -86,4 +88,23 @@ pub extern "C" fn bench_open_range(
         (now (out .entry)) r (now (out .exit)) ⌝ }
 {
     refusal_of(opening::open_range(key, tag_key, file, number, first, count, out))
+}
+
+// An archive sealed into the front of a buffer: 0, or the refusal.
+#[no_mangle]
+pub extern "C" fn bench_seal(
+    key_file: &[u8],
+    tag_key: &[u8],
+    sheet: &[u8],
+    plain: &[u8],
+    out: &mut [u8],
+) -> u32
+    ensures { λ r. ⌜ BenchSeals (now («key_file» .entry)) (now («tag_key» .entry)) (now (sheet .entry)) (now (plain .entry))
+        (now (out .entry)) r (now (out .exit)) ⌝ }
+{
+    let sealed = sealing::seal(key_file, tag_key, sheet, plain, out);
+    match sealed {
+        Sealed::Bytes(_) => 0,
+        Sealed::Refused(n) => n,
+    }
 }

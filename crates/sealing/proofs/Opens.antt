@@ -6,7 +6,7 @@ use mathlib.Core.List.{List, _++_}
 use Prim.Native.Nat.{ℕ, _+_, _*_, _<_, _≤_}
 use native.Mathlib.Nat.{zero-add}
 use native.Mathlib.Omega.{arith}
-use lib.ListN.{length, take, drop}
+use lib.ListN.{length, take, drop, length-take}
 use lib.Seq.{take-at, drop-at, take-all}
 use Rattle.refusals.specs.Cases.{firstOf}
 use Rattle.refusals.specs.Answers.{Answer, gives, writtenFor}
@@ -196,3 +196,11 @@ sealed-opens keyFile tagKey sheet plain before n after s =
           rw (front, ← p .1) (sealed-archive keyFile tagKey sheet plain (length before) g);
       rest = ap (drop n) (s .bytes) ∙ drop-at file (drop n before) n size;
     }
+
+-- whatever was answered: an archive that is given lies within the buffer
+pub seals-fits : (keyFile tagKey sheet plain before after : List ℕ) (a : Answer) → Seals keyFile tagKey sheet plain before a after → (n : ℕ)
+    → a ≡ gives n → n ≤ length after
+seals-fits keyFile tagKey sheet plain before after a s n e =
+    let o = sealed-opens keyFile tagKey sheet plain before n after
+    (subst (λ (b : Answer). Seals keyFile tagKey sheet plain before b after) e s) in
+    omega (arith, length-take n after, o .archive .size)

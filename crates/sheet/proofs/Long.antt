@@ -66,3 +66,11 @@ handed-on sheet = go (ltb (length sheet) 796) refl
         → take (handedOn (length (take 796 sheet)) ((length sheet - 796) % 12)) (take 796 sheet) ≡ cutSheet sheet
     go true e = short sheet (ltb-true _ _ e)
     go false e = long sheet (ltb-false _ _ e)
+
+-- no more than was read
+pub handed-most : (n beyond : ℕ) → handedOn n beyond ≤ 796
+handed-most n beyond = go (ltb n 796) refl
+  where
+    go : (b : Bool) → ltb n 796 ≡ b → handedOn n beyond ≤ 796
+    go true e = omega (arith, handed-short n beyond (ltb-true _ _ e), ltb-true n 796 e)
+    go false e = omega (arith, handed-long n beyond (ltb-false _ _ e))
