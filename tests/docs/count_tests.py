@@ -20,6 +20,8 @@ sys.path.insert(0, os.path.join(TOP, "tests", "model"))
 import cases  # noqa: E402
 import ranges  # noqa: E402
 import run  # noqa: E402
+import sealing  # noqa: E402
+import sheets  # noqa: E402
 
 BEGIN = "<!-- figures: counted by tests/docs/count_tests.py -->\n"
 END = "<!-- figures: end -->\n"
@@ -70,9 +72,20 @@ def figures():
     yield "runs of `jobs` by the model", len(made + changed + chosen) + len(run.SLOW)
     yield "runs of `open` by the model, with the random archives of seed 0", len(asked)
     yield "of these with a range", sum(len(words) > 1 for words in asked)
+    to_seal, altered = list(sheets.made()), list(sheets.changes())
+    again = sum(1 for _ in sheets.rebuilt(made + changed + chosen))
+    good = [case for case in to_seal if case.refusal == 0]
+    yield "job sheets of the model made for one answer", len(to_seal)
+    yield "job sheets of the model with one byte changed", len(altered)
+    yield "random job sheets of the model", run.RANDOM_SHEETS
+    yield "archives of the model rebuilt from their own jobs, with the random ones of seed 0", again
+    yield "runs of `seal` by the model", len(to_seal) + len(altered) + run.RANDOM_SHEETS + len(run.SLOW_SHEETS) + again
+    yield "runs of `jobs` and `open` on what it wrote", sum(1 + len(list(run.opened_again(case))) for case in good)
     yield "openings of `tests/model/ranges.py`", sum(1 for _ in ranges.openings())
     yield "its checks of archives with a byte changed, or cut", sum(1 for _ in ranges.altered())
     yield "its runs of counter mode", sum(1 for _ in ranges.streams())
+    yield "sealings of `tests/model/sealing.py`", sum(1 for _ in sealing.sealings())
+    yield "its archives rebuilt from their own jobs", sum(1 for _ in sealing.rebuilt())
     faults = programs()
     yield "cases of `tests/programs`", sum(len(list(faults.cases(says))) for says in faults.PROGRAMS)
     yield "self-tests of the model", count(r"^    def test_", "tests/model/selftest.py")

@@ -66,11 +66,11 @@ def hexadecimal(command, scratch):
 
 
 def beside_programs(scratch):
-    """A folder from which ../../target/bin is the programs' folder, with the sample in it."""
+    """A folder from which ../../target/bin is the programs' folder, with the sample's archive and key in it."""
     folder = os.path.join(scratch, "some", "folder")
     os.makedirs(folder)
     os.symlink(os.path.join(TOP, "target"), os.path.join(scratch, "target"))
-    for name in os.listdir(SAMPLE):
+    for name in ("archive.bin", "key.bin"):
         shutil.copy(os.path.join(SAMPLE, name), folder)
     return folder
 
@@ -104,7 +104,7 @@ def opening_recipe(command, scratch):
     run("cc -shared -fPIC %s -o %s -ldl" % (shlex.quote(FAULTS), shlex.quote(faults)), scratch)
     done = run(command + "echo went on", folder, status=1, LD_PRELOAD=faults, FAULT="write 1 2 %d 1" % errno.ENOSPC)
     expect("the recipe on a full disk", (done.stdout, done.stderr, os.path.exists(plain)), ("", "open: could not write\n", False))
-    expect("what the recipe leaves", sorted(os.listdir(folder)), sorted(os.listdir(SAMPLE)))
+    expect("what the recipe leaves", sorted(os.listdir(folder)), ["archive.bin", "key.bin"])
 
 
 def rust_program(source, dependency, printed, scratch):

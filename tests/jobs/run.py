@@ -33,13 +33,14 @@ def main():
     differ = []
     with Program(sys.argv[1]) as program:
         for case in cases:
-            key, tag_key, archive = (content(case, name) for name in ("key.bin", "tag.bin", "stdin"))
+            files = {name: content(case, name) for name in ("key.bin", "tag.bin")}
+            archive = content(case, "stdin")
             expected = Written(content(case, "stdout"), b"", 0)
             # small pieces, and yet not many thousands of them
             piece = max(1, len(archive) // 100)
             ways = {
-                "from a file": program.from_file(key, tag_key, archive),
-                "through a slow pipe": program.from_pipe(key, tag_key, archive, piece),
+                "from a file": program.from_file(files, archive),
+                "through a slow pipe": program.from_pipe(files, archive, piece),
             }
             for way, written in ways.items():
                 print("%s, %s: %s" % (case, way, "ok" if written == expected else "DIFFERS"))

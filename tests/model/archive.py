@@ -1,4 +1,4 @@
-"""The rules of the dryer archive, read straight from document 01, with document 02's requests b, d, e and f.
+"""The rules of the dryer archive, read straight from document 01, with document 02's requests a, b, d, e and f.
 
 A model for tests: plain Python over whole numbers and bytes, written apart from the proved code and
 sharing nothing with it. Refusals carry the documents' numbers. Layout 2, which ends in a tag, is request d's;
@@ -16,8 +16,12 @@ ENTRY = 16
 TAG = 16
 LONGEST_FILE = 65536
 MOST_JOBS = 64
+# A job sheet: its front, and then so many bytes a job.
+SHEET = 5
+LINE = 12
 
 Entry = namedtuple("Entry", "digits start length")
+Line = namedtuple("Line", "digits length")
 
 
 class Refused(Exception):
@@ -170,6 +174,77 @@ def opened_into(key, tag_key, file, number, bounds, buffer):
     return 0, len(plain), plain + buffer[len(plain) :]
 
 
+def lines_of(sheet):
+    """The lines of a sheet that 21 passes."""
+    return [Line(sheet[at : at + 8], number_at(sheet, at + 8, 4)) for at in range(SHEET, len(sheet), LINE)]
+
+
+@functools.lru_cache(maxsize=256)
+def sealed(key_file, tag_key, sheet, plain):
+    """The archive of a sheet's jobs, their plain bytes end to end. Refusals 21, 22, 1, 9, 13, 14, 6, 16 and 17, in this order."""
+    refuse_if(len(sheet) < SHEET or (len(sheet) - SHEET) % LINE != 0, 21)
+    refuse_if(sheet[0] not in (0, 16, 24, 32), 22)
+    key_length = 16 if sheet[0] == 0 else sheet[0]
+    refuse_if(len(key_file) < key_length, 1)
+    refuse_if(len(tag_key) not in (0, 16, 24, 32), 1)
+    count = (len(sheet) - SHEET) // LINE
+    refuse_if(count > MOST_JOBS, 9)
+    lines = lines_of(sheet)
+    for index, line in enumerate(lines):
+        refuse_if(not all_digits(line.digits), 13)
+        refuse_if(index > 0 and place(line.digits) <= place(lines[index - 1].digits), 14)
+    wanted = sum(line.length for line in lines)
+    whole_length = PLATE + ENTRY * count + wanted + (TAG if tag_key else 0)
+    refuse_if(whole_length > LONGEST_FILE, 6)
+    refuse_if(len(plain) < wanted, 16)
+    refuse_if(len(plain) > wanted, 17)
+
+    key = key_file[:key_length]
+    layout = 2 if tag_key else 1
+    plate = bytes([layout, key_length]) + count.to_bytes(2, "big") + sheet[1:5]
+    plate += key_check(key) + whole_length.to_bytes(4, "big")
+    contents = bodies = b""
+    for line in lines:
+        start = PLATE + ENTRY * count + len(bodies)
+        contents += line.digits + start.to_bytes(4, "big") + line.length.to_bytes(4, "big")
+        first = counter_block(number_at(sheet, 1, 4), line.digits, 0)
+        bodies += libcrypto.counter(key, first, plain[len(bodies) : len(bodies) + line.length])
+    front = plate + contents + bodies
+    return front + cmac.tag(tag_key, front) if tag_key else front
+
+
+def seal(key_file, tag_key, sheet, plain, room=LONGEST_FILE):
+    """The archive. Refusals of `sealed`, then 20 where a buffer of `room` bytes is too short."""
+    file = sealed(key_file, tag_key, sheet, plain)
+    refuse_if(room < len(file), 20)
+    return file
+
+
+def sealed_into(key_file, tag_key, sheet, plain, buffer):
+    """The refusal of sealing into a buffer or 0, and what the buffer holds then."""
+    try:
+        file = seal(key_file, tag_key, sheet, plain, len(buffer))
+    except Refused as refused:
+        return refused.number, buffer
+    return 0, file + buffer[len(file) :]
+
+
+def entries_of(file):
+    """The entries of an accepted archive."""
+    return [entry_at(file, index) for index in range(number_at(file, 2, 2))]
+
+
+def sheet_of(file):
+    """An accepted archive's own sheet: its key length, its archive number, and each job's digits and length."""
+    lines = [entry.digits + entry.length.to_bytes(4, "big") for entry in entries_of(file)]
+    return file[1:2] + file[4:8] + b"".join(lines)
+
+
+def plain_of(key, tag_key, file):
+    """The plain bytes of all jobs of an accepted archive, end to end."""
+    return b"".join(plain_bytes(key, tag_key, file, entry.digits) for entry in entries_of(file))
+
+
 def jobs_text(key, tag_key, file):
     """What the program `jobs` prints."""
     try:
@@ -190,3 +265,11 @@ def open_output(key, tag_key, file, number, *words):
         return opened(key, tag_key, file, number, tuple(map(int, words))), b""
     except Refused as refused:
         return b"", b"refused %d\n" % refused.number
+
+
+def seal_output(key_file, tag_key, sheet, plain):
+    """What the program `seal` writes, standard output and standard error."""
+    try:
+        return seal(key_file, tag_key, sheet, plain), b""
+    except Refused as refused:
+        return b"refused %d\n" % refused.number, b""

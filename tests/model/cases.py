@@ -30,6 +30,12 @@ class Case(namedtuple("Case", "name key file refusal tag_key", defaults=[None]))
         """Key, tag key and file, as every call takes them: what is missing is empty."""
         return self.key or b"", self.tag_key or b"", self.file
 
+    def files(self):
+        return {"key.bin": self.key, "tag.bin": self.tag_key}
+
+    def input(self):
+        return self.file
+
 
 class Draft:
     """An archive in parts, of layout 2 where there is a tag key. It is good as made; a test then changes a part.

@@ -1,4 +1,4 @@
-"""Runs a program on a key file, a tag file and an archive, and gives what it wrote."""
+"""Runs a program on files of its folder and on standard input, and gives what it wrote."""
 
 import os
 import shutil
@@ -51,9 +51,9 @@ class Program:
             with open(place, "wb") as file:
                 file.write(data)
 
-    def _start(self, key, tag_key, command, stdin):
-        self._place("key.bin", key)
-        self._place("tag.bin", tag_key)
+    def _start(self, files, command, stdin):
+        for name, data in files.items():
+            self._place(name, data)
         return subprocess.Popen(
             command,
             cwd=self.folder,
@@ -62,26 +62,26 @@ class Program:
             stderr=subprocess.PIPE,
         )
 
-    def from_file(self, key, tag_key, archive, arguments=()):
-        """With the archive as a file on standard input."""
+    def from_file(self, files, data, arguments=()):
+        """With these files, by their names, and with the data as a file on standard input."""
         with tempfile.TemporaryFile(dir=self.folder) as file:
-            file.write(archive)
+            file.write(data)
             file.seek(0)
-            return finished(self._start(key, tag_key, [self.path, *arguments], file))
+            return finished(self._start(files, [self.path, *arguments], file))
 
-    def from_pipe(self, key, tag_key, archive, piece, arguments=(), pause=0.001):
-        """With the archive through a pipe, in pieces of so many bytes and a pause between them."""
-        process = self._start(key, tag_key, [self.path, *arguments], subprocess.PIPE)
+    def from_pipe(self, files, data, piece, arguments=(), pause=0.001):
+        """With the data through a pipe, in pieces of so many bytes and a pause between them."""
+        process = self._start(files, [self.path, *arguments], subprocess.PIPE)
         # a program that neither reads on nor ends would leave the pipe full
         limit = threading.Timer(SECONDS, process.kill)
         limit.start()
         try:
-            for at in range(0, len(archive), piece):
-                process.stdin.write(archive[at : at + piece])
+            for at in range(0, len(data), piece):
+                process.stdin.write(data[at : at + piece])
                 process.stdin.flush()
                 time.sleep(pause)
         except BrokenPipeError:
-            pass  # a program may stop reading once the file is too long
+            pass  # a program may stop reading once the input is too long
         finally:
             limit.cancel()
         return finished(process)

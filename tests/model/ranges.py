@@ -9,80 +9,21 @@ archive is checked with each of its bytes changed to each other value, and with 
 or the first call that differs, and then the exit status is 1.
 """
 
-import ctypes
-import faulthandler
-import os
-import subprocess
 import sys
-import tempfile
 
 import archive
 import cases
 import libcrypto
+from library import FILL, compare, loaded
 
-TOP = os.path.join(os.path.dirname(os.path.abspath(__file__)), "..", "..")
-LIBRARY = os.path.join(TOP, "target", "staticlib", "libbenchlib.a")
-# Seconds until all of it is taken to hang.
-PATIENCE = 600
 # How many bytes of the keystream the code makes at a time.
 CHUNK = 4096
-# What a buffer holds before a call, and how many bytes on either side of it are watched.
-FILL = b"\xa5"
-BESIDE = 32
 # Longer than three chunks, and of no whole number of blocks.
 LENGTH = 3 * CHUNK + 37
 # Keys with tag keys of another length.
 KEY_PAIRS = [(cases.KEYS[key], cases.TAG_KEYS[tag_key]) for key, tag_key in ((16, 24), (24, 32), (32, 16))]
 # First bytes and counts about powers of 2; 2^36 bytes are 2^32 blocks.
 HUGE = [2**k + d for k in (31, 32, 33, 36, 60, 63, 64) for d in (-17, -16, -1, 0, 1, 16) if 2**k + d < 2**64]
-
-
-class Library:
-    """The exported calls. A slice is a pointer and a length."""
-
-    def __init__(self, path, folder):
-        shared = os.path.join(folder, "benchlib.so")
-        flags = ["-shared", "-Wl,-z,defs,-z,text", "-Wl,--whole-archive", path, "-Wl,--no-whole-archive"]
-        subprocess.run(["cc", *flags, "-o", shared], check=True)
-        library = ctypes.CDLL(shared)
-        part, size = [ctypes.c_char_p, ctypes.c_size_t], ctypes.c_size_t
-        lent = [ctypes.c_void_p, ctypes.c_size_t]
-        arguments = {
-            "bench_check": 3 * part,
-            "bench_open": 4 * part + lent,
-            "bench_open_range": 4 * part + [size, size] + lent,
-            "bench_ctr": 2 * part + [size] + lent,
-        }
-        for name, types in arguments.items():
-            getattr(library, name).argtypes = types
-            getattr(library, name).restype = ctypes.c_uint32
-        self.library = library
-        self.calls = 0
-
-    def lend(self, name, arguments, held):
-        """The number that a call answers on a buffer that held these bytes, and what it then holds."""
-        self.calls += 1
-        place = BESIDE + self.calls % 16
-        memory = ctypes.create_string_buffer(FILL * place + held + FILL * BESIDE, place + len(held) + BESIDE)
-        number = getattr(self.library, name)(*arguments, ctypes.addressof(memory) + place, len(held))
-        if memory.raw[:place] != FILL * place or memory.raw[place + len(held) :] != FILL * BESIDE:
-            return number, b"bytes written beside the buffer"
-        return number, memory.raw[place : place + len(held)]
-
-    def opened(self, case, number, bounds, room):
-        name = "bench_open_range" if bounds else "bench_open"
-        return self.lend(name, (*sized(*case.lent(), number), *bounds), FILL * room)
-
-    def checked(self, case):
-        self.calls += 1
-        return self.library.bench_check(*sized(*case.lent()))
-
-    def streamed(self, key, prefix, first, run):
-        return self.lend("bench_ctr", (*sized(key, prefix), first), run)
-
-
-def sized(*slices):
-    return [argument for each in slices for argument in (each, len(each))]
 
 
 def refusal_of(case):
@@ -214,24 +155,9 @@ def streamed(key, prefix, first, run):
 # ---- all of them
 
 
-def compare(what, given, wanted):
-    if given[0] != wanted[0]:
-        sys.exit("archive ranges: %s: %d in place of %d" % (what, given[0], wanted[0]))
-    if given[1] != wanted[1]:
-        at = next((i for i, (a, b) in enumerate(zip(given[1], wanted[1])) if a != b), min(len(given[1]), len(wanted[1])))
-        sys.exit("archive ranges: %s: byte %d of the buffer differs, or one beside it" % (what, at))
-
-
 def main():
-    path = os.path.abspath(sys.argv[1] if len(sys.argv) > 1 else LIBRARY)
-    if not os.path.isfile(path):
-        sys.exit("%s is missing: rt staticlib benchlib" % path)
-    # a call that never returns, or writes where nothing is, ends with the place in this file
-    faulthandler.enable()
-    faulthandler.dump_traceback_later(PATIENCE, exit=True)
     met = set()
-    with tempfile.TemporaryDirectory(prefix="ranges-") as folder:
-        library = Library(path, folder)
+    with loaded() as library:
         for case in cases.made():
             if case.key is not None:
                 compare("the check of %s" % case.name, (library.checked(case), b""), (case.refusal, b""))
@@ -248,7 +174,6 @@ def main():
         for key, prefix, first, run in streams():
             what = "counter mode, key of %d bytes, first byte %d, %d bytes" % (len(key), first, len(run))
             compare(what, library.streamed(key, prefix, first, run), streamed(key, prefix, first, run))
-    faulthandler.cancel_dump_traceback_later()
     if met != {0, 1} | set(range(5, 21)) | {24, 25, 26}:
         sys.exit("archive ranges: of the refusals only %s were met" % sorted(met))
     print("archive ranges: %d calls agree" % library.calls)

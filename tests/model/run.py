@@ -1,15 +1,16 @@
-"""Holds the programs `jobs` and `open` to the model.
+"""Holds the programs `jobs`, `open` and `seal` to the model.
 
-    python3 tests/model/run.py --jobs target/bin/jobs [--open target/bin/open] [--seed N]
+    python3 tests/model/run.py --jobs target/bin/jobs [--open target/bin/open [--seal target/bin/seal]] [--seed N]
 
 Runs the model's self-test first. Each case is one run of a program in a folder of its own, with the
-archive as a file or through a pipe in turn; some go through a slow pipe in small pieces. Every byte
-written is compared. The last line is `archive model: N cases agree`, or says how many differ, and
-then the exit status is 1.
+archive, or what is to be sealed, as a file or through a pipe in turn; some go through a slow pipe in small
+pieces. Every byte written is compared. What `seal` wrote is then listed by `jobs` and opened by `open`, and
+every accepted archive is sealed again from its own jobs. The last line is `archive model: N cases agree`, or
+says how many differ, and then the exit status is 1.
 
-Refusal 20 is not met here: no body is longer than 65,536 bytes, and `open` lends that much. ranges.py and
-the program `known_answers` meet it. What the programs do where reading or writing fails, and of words that
-they do not take, is tests/programs.
+Refusal 20 is not met here: no body and no archive is longer than 65,536 bytes, and `open` and `seal` lend that
+much. ranges.py, sealing.py and the program `known_answers` meet it. What the programs do where reading or
+writing fails, and of words that they do not take, is tests/programs.
 """
 
 import argparse
@@ -20,9 +21,11 @@ import unittest
 import archive
 import cases
 import selftest
+import sheets
 from program import Program, Written
 
 RANDOM_CASES = 600
+RANDOM_SHEETS = 600
 SHOWN = 10
 
 
@@ -40,9 +43,8 @@ class Comparison:
         self.differed += 1
         if self.differed <= SHOWN:
             print("DIFFERS %s: %s" % (name, case.name))
-            print("  key      %s" % ("none" if case.key is None else case.key[:64].hex()))
-            print("  tag key  %s" % ("none" if case.tag_key is None else case.tag_key[:64].hex()))
-            print("  archive  %s (%d bytes)" % (case.file[:120].hex(), len(case.file)))
+            for file, data in [*case.files().items(), ("input", case.input())]:
+                print("  %-9s%s" % (file, "none" if data is None else "%s (%d bytes)" % (data[:120].hex(), len(data))))
             print("  expected %s" % (shown(expected),))
             print("  written  %s" % (shown(written),))
 
@@ -63,11 +65,15 @@ def expected_of_open(case, words):
     return Written(*archive.open_output(*case.lent(), *words), 0)
 
 
+def expected_of_seal(case):
+    return Written(*archive.seal_output(*case.lent()), 0)
+
+
 def in_turn(program, turn, case, arguments=()):
     """From a file and through a pipe by turns, so that both are met by every kind of case."""
     if turn % 2:
-        return program.from_pipe(case.key, case.tag_key, case.file, max(1, len(case.file)), arguments, pause=0)
-    return program.from_file(case.key, case.tag_key, case.file, arguments)
+        return program.from_pipe(case.files(), case.input(), max(1, len(case.input())), arguments, pause=0)
+    return program.from_file(case.files(), case.input(), arguments)
 
 
 SLOW = [
@@ -92,12 +98,17 @@ def run_jobs(path, all_cases, comparison):
             written = in_turn(program, turn, case)
             comparison.note("jobs", case, expected_of_jobs(case), written)
         for case, piece in SLOW:
-            written = program.from_pipe(case.key, case.tag_key, case.file, piece)
+            written = program.from_pipe(case.files(), case.file, piece)
             comparison.note("jobs, slow pipe", case, expected_of_jobs(case), written)
 
 
 def decimal(*numbers):
     return tuple(b"%d" % number for number in numbers)
+
+
+def some_of(count):
+    """Which of so many jobs are opened: the first, the middle and the last two."""
+    return sorted({0, count // 2, count - 2, count - 1} & set(range(count)))
 
 
 def words_to_ask(case, turn):
@@ -110,7 +121,7 @@ def words_to_ask(case, turn):
     except archive.Refused:
         number = b"2400001" if turn // 2 % 2 else b"24000017"
         return [(number, *decimal(2, 2)) if turn // 4 % 2 else (number,)]
-    entries = [archive.entry_at(case.file, i) for i in sorted({0, count // 2, count - 2, count - 1} & set(range(count)))]
+    entries = [archive.entry_at(case.file, index) for index in some_of(count)]
     whole = [(entry.digits,) for entry in entries]
     if not entries:
         return whole
@@ -211,16 +222,77 @@ def run_open(path, all_cases, comparison):
             written = in_turn(program, turn, case, words)
             comparison.note("open %s" % (tuple(word[:40] for word in words),), case, expected_of_open(case, words), written)
         for case, piece, words in asked_slowly():
-            written = program.from_pipe(case.key, case.tag_key, case.file, piece, words)
+            written = program.from_pipe(case.files(), case.file, piece, words)
             comparison.note("open %s, slow pipe" % (words,), case, expected_of_open(case, words), written)
+
+
+SLOW_SHEETS = [
+    # case, bytes in a piece
+    (sheets.sample().case("sample", 0), 1),
+    (sheets.Sheet(range(64), None, 32).case("64 jobs", 0), 97),
+    (sheets.Sheet(cases.filled([]), None, 24).case("65,536 bytes", 0), 1021),
+    (sheets.Sheet(cases.filled([], cases.TAG_KEY), cases.TAG_KEY).case("65,536 bytes, tagged", 0), 1021),
+    (sheets.Sheet().case("a byte short", 16)._replace(plain=sheets.text(24)), 7),
+    (sheets.Sheet(cases.filled([])).case("a byte more", 17)._replace(plain=sheets.text(65501)), 1021),
+    (sheets.Sheet().case("300,000 bytes", 17)._replace(plain=sheets.text(300000)), 8192),
+]
+
+
+def run_seal(path, all_sheets, all_cases, comparison):
+    """Answers what was sealed: each case that was made to be accepted, and what the program wrote of it."""
+    archives = []
+    with Program(path) as program:
+        for turn, case in enumerate(all_sheets):
+            written = in_turn(program, turn, case)
+            comparison.note("seal", case, expected_of_seal(case), written)
+            if case.refusal == 0:
+                archives.append((case, written.stdout))
+        for case, piece in SLOW_SHEETS:
+            written = program.from_pipe(case.files(), case.plain, piece)
+            comparison.note("seal, slow pipe", case, expected_of_seal(case), written)
+        for turn, (case, file) in enumerate(sheets.rebuilt(all_cases)):
+            comparison.note("seal", case, Written(file, b"", 0), in_turn(program, turn, case))
+    return archives
+
+
+def listed(case):
+    """What `jobs` is to print of what was sealed: the jobs are the sheet's."""
+    lines = archive.lines_of(case.sheet)
+    text, start = b"jobs %d\n" % len(lines), archive.PLATE + archive.ENTRY * len(lines)
+    for line in lines:
+        text += b"%s %d %d\n" % (line.digits, start, line.length)
+        start += line.length
+    return text
+
+
+def opened_again(case):
+    """Jobs of what was sealed, the first, the middle and the last two, each with the plain bytes that were handed over."""
+    lines = archive.lines_of(case.sheet)
+    for index in some_of(len(lines)):
+        before = sum(line.length for line in lines[:index])
+        yield lines[index].digits, case.plain[before : before + lines[index].length]
+
+
+def run_sealed(jobs_path, open_path, archives, comparison):
+    """`jobs` and `open` on what was sealed."""
+    with Program(jobs_path) as jobs, Program(open_path) as opening:
+        for turn, (case, file) in enumerate(archives):
+            whole = cases.Case(case.name, case.key_file[: sheets.KEY_LENGTHS[case.sheet[0]]], file, 0, case.tag_key)
+            comparison.note("jobs, sealed", whole, Written(listed(case), b"", 0), in_turn(jobs, turn, whole))
+            for number, plain in opened_again(case):
+                written = in_turn(opening, turn, whole, (number,))
+                comparison.note("open %s, sealed" % number.decode(), whole, Written(plain, b"", 0), written)
 
 
 def main():
     parser = argparse.ArgumentParser(description="Holds the programs to the archive model.")
     parser.add_argument("--jobs", required=True, help="the program jobs")
     parser.add_argument("--open", help="the program open")
+    parser.add_argument("--seal", help="the program seal; what it writes is opened by open")
     parser.add_argument("--seed", type=int, help="repeats the random cases of an earlier run")
     options = parser.parse_args()
+    if options.seal and not options.open:
+        parser.error("--seal needs --open")
 
     tests = unittest.defaultTestLoader.loadTestsFromModule(selftest)
     if not unittest.TextTestRunner(stream=sys.stdout).run(tests).wasSuccessful():
@@ -234,6 +306,10 @@ def main():
     run_jobs(options.jobs, all_cases, comparison)
     if options.open:
         run_open(options.open, all_cases, comparison)
+    if options.seal:
+        all_sheets = [*sheets.made(), *sheets.changes(), *sheets.random_sheets(seed, RANDOM_SHEETS)]
+        archives = run_seal(options.seal, all_sheets, all_cases, comparison)
+        run_sealed(options.jobs, options.open, archives, comparison)
     if comparison.differed:
         sys.stdout.flush()
         total = comparison.agreed + comparison.differed

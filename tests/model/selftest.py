@@ -11,6 +11,7 @@ import archive
 import cases
 import cmac
 import libcrypto
+import sheets
 import stored
 from records import records
 
@@ -280,6 +281,100 @@ class Tagged(unittest.TestCase):
                 self.assertEqual(archive.jobs_text(key, tag_key, tagged), archive.jobs_text(key, b"", plain))
                 for number, body in jobs:
                     self.assertEqual(archive.open_job(key, tag_key, tagged, number), body)
+
+
+class Sealing(unittest.TestCase):
+    """Document 02, a, and what d says of writing."""
+
+    KEY, TAG_KEY = Tagged.KEY, Tagged.TAG_KEY
+    # worked by hand: key length 16, archive number 7, and the two jobs of document 01's example
+    SHEET = bytes.fromhex("10 00000007 3234303030303137 00000005 3234303030303138 00000000")
+    # the archive of layout 1, of which the tagged one was worked
+    FILE = b"\1" + Tagged.FRONT[1:16] + bytes([0, 0, 0, 57]) + Tagged.FRONT[20:]
+
+    def test_a_small_archive(self):
+        self.assertEqual(archive.seal(self.KEY, b"", self.SHEET, b"dried"), self.FILE)
+        self.assertEqual(archive.seal(self.KEY, self.TAG_KEY, self.SHEET, b"dried"), Tagged.FILE)
+        self.assertEqual(archive.seal_output(self.KEY, b"", self.SHEET, b"dried"), (self.FILE, b""))
+        self.assertEqual(archive.seal_output(self.KEY, b"", b"", b"dried"), (b"refused 21\n", b""))
+        for file, tag_key in ((self.FILE, b""), (Tagged.FILE, self.TAG_KEY)):
+            self.assertEqual(archive.sheet_of(file), self.SHEET)
+            self.assertEqual(archive.plain_of(self.KEY, tag_key, file), b"dried")
+
+    def test_key_files(self):
+        """0 means 16; the key is the front of the key file; the plate never says 0."""
+        for first, length in ((0, 16), (16, 16), (24, 24), (32, 32)):
+            sheet = bytes([first]) + self.SHEET[1:]
+            wanted = cases.Draft(cases.KEYS[length], 7, [(b"24000017", b"dried"), (b"24000018", b"")]).file()
+            for more in (0, 1, 8, 16, 48):
+                self.assertEqual(archive.seal(bytes(range(length + more)), b"", sheet, b"dried"), wanted)
+            self.assertEqual(wanted[1], length)
+            self.assertEqual(refusal(archive.seal, bytes(length - 1), b"", sheet, b"dried"), 1)
+
+    def test_each_refusal_before_those_behind_it(self):
+        """From good things, one fault more at a time, the last of the order first."""
+
+        def lines(*jobs):
+            return b"".join(number + length.to_bytes(4, "big") for number, length in jobs)
+
+        right = [self.KEY, b"", self.SHEET, b"dried", 57]
+        self.assertEqual(refusal(archive.seal, *right), 0)
+        first, second = (b"24000017", 5), (b"24000018", 0)
+        many = [(b"%08d" % (24000019 + i), 0) for i in range(63)]
+        for wanted, at, value in (
+            (20, 4, 56),
+            (17, 3, b"dried."),
+            (16, 3, b"drie"),
+            (6, 2, self.SHEET[:5] + lines(first, (b"24000018", 65480))),
+            (6, 2, self.SHEET[:5] + lines((b"24000017", 2**32 - 1), (b"24000018", 5))),
+            (14, 2, self.SHEET[:5] + lines(first, (b"24000017", 65480))),
+            (14, 2, self.SHEET[:5] + lines((b"00000000", 5), (b"99999999", 65480))),
+            (14, 2, self.SHEET[:5] + lines(first, (b"24000017", 65480), (b"2400001x", 0))),
+            (13, 2, self.SHEET[:5] + lines(first, (b"2400001/", 65480))),
+            (13, 2, self.SHEET[:5] + lines((b":4000017", 5), (b"24000017", 65480), (b"24000017", 0))),
+            (9, 2, self.SHEET[:5] + lines((b":4000017", 5), second, *many)),
+            (1, 1, bytes(17)),
+            (1, 0, self.KEY[:15]),
+            (22, 2, b"\1" + self.SHEET[1:5] + lines((b":4000017", 5), second, *many)),
+            (21, 2, b"\1" + self.SHEET[1:5] + lines((b":4000017", 5), second, *many) + b"0"),
+        ):
+            right[at] = value
+            self.assertEqual(refusal(archive.seal, *right), wanted, (wanted, value))
+
+    def test_each_case_has_the_answer_it_was_made_for(self):
+        met = set()
+        for case in sheets.made():
+            self.assertEqual(refusal(archive.seal, *case.lent()), case.refusal, case.name)
+            met.add(case.refusal)
+        self.assertEqual(met, {0, 1, 6, 9, 13, 14, 16, 17, 21, 22})
+
+    def test_names_are_distinct(self):
+        names = [case.name for case in sheets.made()]
+        self.assertEqual(len(names), len(set(names)))
+
+    def test_archives_come_out_again(self):
+        """The archives of cases.py are made by parts; each good one is what sealing makes of its own jobs."""
+        seen = {1: 0, 2: 0}
+        for case, file in sheets.rebuilt(cases.made()):
+            self.assertEqual(archive.seal(*case.lent()), file, case.name)
+            seen[file[0]] += 1
+        self.assertGreater(min(seen.values()), 100)
+
+    def test_what_is_sealed_opens(self):
+        for case in sheets.made():
+            if case.refusal == 0:
+                key_file, tag_key, sheet, plain = case.lent()
+                key = key_file[: sheets.KEY_LENGTHS[sheet[0]]]
+                file = archive.seal(*case.lent())
+                self.assertEqual(archive.check(key, tag_key, file), len(archive.lines_of(sheet)), case.name)
+                self.assertEqual(archive.sheet_of(file)[1:], sheet[1:], case.name)
+                self.assertEqual(archive.plain_of(key, tag_key, file), plain, case.name)
+
+    def test_buffers(self):
+        for room in range(100):
+            wanted = (20, bytes(room)) if room < 57 else (0, self.FILE + bytes(room - 57))
+            self.assertEqual(archive.sealed_into(self.KEY, b"", self.SHEET, b"dried", bytes(room)), wanted)
+            self.assertEqual(archive.sealed_into(self.KEY, b"", self.SHEET, b"dried.", bytes(room)), (17, bytes(room)))
 
 
 class Searching(unittest.TestCase):

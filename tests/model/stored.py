@@ -32,6 +32,9 @@ def stored():
         "examples/tagged/tag.bin": tag_key,
         "examples/tagged/archive.bin": tagged,
     }
+    for folder in ("sample", "tagged"):
+        files["examples/%s/sheet.bin" % folder] = archive.sheet_of(sample.file())
+        files["examples/%s/plain.bin" % folder] = archive.plain_of(sample.key, b"", sample.file())
     files.update(_case("sample", sample.key, sample.file()))
     files.update(_case("empty-archive", sample.key, b""))
     files.update(_case("missing-key", None, sample.file()))
@@ -53,6 +56,10 @@ def stored():
         files["crates/%s/data/key.bin" % crate] = sample.key
     files["crates/jobs/stdout"] = archive.jobs_text(sample.key, b"", sample.file())
     files["crates/open/stdout"] = archive.open_job(sample.key, b"", sample.file(), b"24000017")
+    files["crates/seal/stdin"] = files["examples/sample/plain.bin"]
+    files["crates/seal/stdout"] = sample.file()
+    for name in ("key.bin", "sheet.bin"):
+        files["crates/seal/data/%s" % name] = files["examples/sample/%s" % name]
     return files
 
 

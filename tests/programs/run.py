@@ -1,10 +1,11 @@
-"""Holds the programs `jobs` and `open` to what they say when reading or writing fails, at a terminal, and of their words.
+"""Holds the programs `jobs`, `open` and `seal` to what they say when reading or writing fails, at a terminal, and of their words.
 
-    python3 tests/programs/run.py --jobs target/bin/jobs --open target/bin/open
+    python3 tests/programs/run.py --jobs target/bin/jobs --open target/bin/open --seal target/bin/seal
 
-Each case runs a program on a sample archive, of layout 1 unless its name says otherwise, in a folder of its own and compares standard
-output, standard error and the way it ended. Faults that a file cannot be made to have come from faults.c, which stands before the C
-library's open, read and write. The last line is a count, or says how many differ, and then the exit status is 1.
+Each case runs a program on a sample archive, of layout 1 unless its name says otherwise, or `seal` on the sheet and the plain bytes that
+the sample is made of, in a folder of its own and compares standard output, standard error and the way it ended. Faults that a file cannot
+be made to have come from faults.c, which stands before the C library's open, read and write. The last line is a count, or says how many
+differ, and then the exit status is 1.
 """
 
 import argparse
@@ -25,10 +26,23 @@ SAMPLE = os.path.join(HERE, "..", "..", "examples", "sample")
 TAGGED = os.path.join(HERE, "..", "..", "examples", "tagged")
 sys.path.insert(0, os.path.join(HERE, "..", "model"))
 
+import archive  # noqa: E402
 from program import Written, finished  # noqa: E402
 
+
+def content(folder, name):
+    with open(os.path.join(folder, name), "rb") as file:
+        return file.read()
+
+
+# What a program reads from standard input: a file of the sample, places in it, how many bytes a good one may have, and the refusals of
+# one of no bytes and of one that is too long.
+Input = namedtuple("Input", "name places longest empty too_long")
 # What a program says, by its name, and what it writes of the sample when nothing goes wrong.
-Says = namedtuple("Says", "name words output could_not_read could_not_write usage")
+Says = namedtuple("Says", "name words output could_not_read could_not_write usage input")
+
+ARCHIVE = Input("archive.bin", (0, 19, 20, 52, 57), 65536, 5, 6)
+PLAIN = Input("plain.bin", (0, 1, 2, 4, 5), 65500, 16, 17)
 
 JOBS = Says(
     "jobs",
@@ -38,6 +52,7 @@ JOBS = Says(
     b"jobs: could not write\n",
     b"usage: jobs < ARCHIVE\n"
     b"lists the archive's jobs, under the key in key.bin of this folder and the tag key in tag.bin, if there is one\n",
+    ARCHIVE,
 )
 OPEN = Says(
     "open",
@@ -48,30 +63,47 @@ OPEN = Says(
     b"usage: open NUMBER [FIRST COUNT] < ARCHIVE > PLAIN\n"
     b"opens that job, eight digits, or COUNT bytes of it from byte FIRST on, counted from 0, "
     b"under key.bin and, if there, tag.bin\n",
+    ARCHIVE,
 )
 # The same program, asked for a range.
 OPEN_RANGE = OPEN._replace(words=("24000017", "1", "3"), output=b"rie")
-PROGRAMS = [JOBS, OPEN, OPEN_RANGE]
+SEAL = Says(
+    "seal",
+    (),
+    content(SAMPLE, "archive.bin"),
+    b"seal: could not read\n",
+    b"seal: could not write\n",
+    b"usage: seal < PLAIN > ARCHIVE\n"
+    b"seals the jobs of sheet.bin, their plain bytes end to end on standard input, "
+    b"under key.bin of this folder and, if there, tag.bin\n",
+    PLAIN,
+)
+PROGRAMS = [JOBS, OPEN, OPEN_RANGE, SEAL]
+# A sheet that asks for as many plain bytes as an archive holds.
+LONGEST_SHEET = b"\x10" + bytes(4) + b"24000017" + PLAIN.longest.to_bytes(4, "big")
 
 # How often a read that signals break off is tried.
 TRIES = 1000
 # How many seconds a terminal is waited for.
 PATIENCE = 10
+# Why a file that is there may not be opened.
+NOT_OPENED = (errno.EACCES, errno.EINTR, errno.EIO, errno.EMFILE, errno.ENFILE, errno.ENOTDIR, errno.EPERM)
 
 
 def refused(says, number):
-    """A refusal's line: `jobs` prints it, `open` keeps standard output for plain bytes."""
+    """A refusal's line: `jobs` and `seal` print it, `open` keeps standard output for plain bytes."""
     line = b"refused %d\n" % number
-    return Written(line, b"", 0) if says.name == "jobs" else Written(b"", line, 0)
+    return Written(b"", line, 0) if says.name == "open" else Written(line, b"", 0)
 
 
 class Folder:
-    """A folder with the sample archive and its key, in which a program is run."""
+    """A folder with the files of the sample, in which a program is run; `input` is the one for standard input."""
 
-    def __init__(self, program, faults):
+    def __init__(self, program, input, faults):
         self.program = os.path.abspath(program)
+        self.input = input
         self.path = tempfile.mkdtemp(prefix="programs-")
-        for file in (os.path.join(SAMPLE, "archive.bin"), os.path.join(SAMPLE, "key.bin"), faults):
+        for file in (*(os.path.join(SAMPLE, name) for name in os.listdir(SAMPLE)), faults):
             shutil.copy(file, self.path)
 
     def __enter__(self):
@@ -83,8 +115,18 @@ class Folder:
     def file(self, name):
         return os.path.join(self.path, name)
 
+    def put(self, name, made):
+        """A file of these bytes, or as a function makes it of its path, or none, in place of the one that is there."""
+        with contextlib.suppress(FileNotFoundError):
+            os.remove(self.file(name))
+        if callable(made):
+            made(self.file(name))
+        elif made is not None:
+            with open(self.file(name), "wb") as file:
+                file.write(made)
+
     def run(self, words, stdin=None, stdout=subprocess.PIPE, fault=None, shell=None):
-        """With the archive on standard input unless told otherwise; `shell` has redirections that only a shell can make."""
+        """With its input on standard input unless told otherwise; `shell` has redirections that only a shell can make."""
         command = [self.program, *words]
         if shell:
             command = ["sh", "-c", 'exec "$0" "$@" ' + shell, *command]
@@ -94,11 +136,33 @@ class Folder:
             environment.update(LD_PRELOAD="./faults.so", FAULT="%s %s %d %d %d" % fault)
         with contextlib.ExitStack() as stack:
             if stdin is None:
-                stdin = stack.enter_context(open(self.file("archive.bin"), "rb"))
+                stdin = stack.enter_context(open(self.file(self.input), "rb"))
             process = subprocess.Popen(
                 command, cwd=self.path, env=environment, stdin=stdin, stdout=stdout, stderr=subprocess.PIPE
             )
             return finished(process)
+
+
+def circular(path):
+    os.symlink(os.path.basename(path), path)
+
+
+def leads_nowhere(path):
+    os.symlink("no such file", path)
+
+
+def without_end(path):
+    os.symlink("/dev/zero", path)
+
+
+def with_file(name, made, says, fault=None, **input):
+    """A run with another file of that name, as `put` makes it."""
+
+    def run(f):
+        f.put(name, made)
+        return f.run(says.words, fault=fault, **input)
+
+    return run
 
 
 def at_terminal(f, words, typed):
@@ -137,7 +201,13 @@ def writing(says):
         with open("/dev/full", "wb") as full:
             return f.run(says.words, stdout=full)
 
+    def refusal_to_full(f):
+        f.put("key.bin", None)
+        return to_full(f)
+
     yield "output to /dev/full", failed, to_full
+    if says.name != "open":
+        yield "a refusal to /dev/full", failed, refusal_to_full
     yield "standard output closed", failed, lambda f: f.run(says.words, stdout=None, shell=">&-")
     yield "standard output open for reading only", failed, lambda f: f.run(says.words, stdout=None, shell="1<archive.bin")
     for after in (0, 1, len(says.output) - 1):
@@ -185,34 +255,38 @@ def reading(says):
             os.close(folder)
 
     yield "standard input is a folder", failed, from_folder
-    for after in (0, 19, 20, 52, 57):
+    first, _, middle, _, last = says.input.places
+    for after in says.input.places:
         yield "input error after %d bytes" % after, failed, (
             lambda f, after=after: f.run(says.words, fault=("read", 0, after, errno.EIO, 1))
         )
     for number in (errno.EAGAIN, errno.ENOMEM, errno.ENXIO):
         yield "input error %s" % errno.errorcode[number], failed, (
-            lambda f, number=number: f.run(says.words, fault=("read", 0, 20, number, 1))
+            lambda f, number=number: f.run(says.words, fault=("read", 0, middle, number, 1))
         )
 
-    def long_archive(f, length, after):
+    def long_input(f, length, after):
         """Zero bytes: only how many there are is looked at, and whether a read of them failed."""
-        with open(f.file("archive.bin"), "wb") as file:
-            file.write(bytes(length))
+        f.put(says.input.name, bytes(length))
+        f.put("sheet.bin", LONGEST_SHEET)
         return f.run(says.words, fault=("read", 0, after, errno.EIO, 1))
 
-    for after in (4095, 4096, 4097, 65535, 65536):
-        yield "long input, error after %d bytes" % after, failed, lambda f, after=after: long_archive(f, 65536, after)
-    yield "input too long, then an error", refused(says, 6), lambda f: long_archive(f, 65537, 65537)
+    longest = says.input.longest
+    for after in (4095, 4096, 4097, longest - 1, longest):
+        yield "long input, error after %d bytes" % after, failed, lambda f, after=after: long_input(f, longest, after)
+    # how far `seal` reads an input that is too long is its own choice
+    if says is not SEAL:
+        yield "input too long, then an error", refused(says, says.input.too_long), lambda f: long_input(f, longest + 1, longest + 1)
 
-    def without_end(f):
+    def endless(f):
         with open("/dev/zero", "rb") as zeros:
             return f.run(says.words, stdin=zeros)
 
-    yield "input without end", refused(says, 6), without_end
-    yield "standard input gone after 20 bytes", failed, lambda f: f.run(says.words, fault=("read", 0, 20, errno.EBADF, 1))
-    yield "standard input closed", refused(says, 5), lambda f: f.run(says.words, shell="<&-")
-    yield "standard input open for writing only", refused(says, 5), lambda f: f.run(says.words, shell="0>other.bin")
-    for after in (0, 20, 57):
+    yield "input without end", refused(says, says.input.too_long), endless
+    yield "standard input gone after %d bytes" % middle, failed, lambda f: f.run(says.words, fault=("read", 0, middle, errno.EBADF, 1))
+    yield "standard input closed", refused(says, says.input.empty), lambda f: f.run(says.words, shell="<&-")
+    yield "standard input open for writing only", refused(says, says.input.empty), lambda f: f.run(says.words, shell="0>other.bin")
+    for after in (first, middle, last):
         for times in (1, TRIES - 1):
             yield "input broken off %d times after %d bytes" % (times, after), Written(says.output, b"", 0), (
                 lambda f, after=after, times=times: f.run(says.words, fault=("read", 0, after, errno.EINTR, times))
@@ -232,79 +306,63 @@ def key_files(says):
             lambda f, after=after: f.run(says.words, fault=("read", "key.bin", after, errno.EINTR, 1))
         )
 
-    def without(f):
-        os.remove(f.file("key.bin"))
-        return f.run(says.words)
-
-    def circular(f):
-        os.remove(f.file("key.bin"))
-        os.symlink("key.bin", f.file("key.bin"))
-        return f.run(says.words)
-
-    def folder(f):
-        os.remove(f.file("key.bin"))
-        os.mkdir(f.file("key.bin"))
-        return f.run(says.words)
-
-    def without_end(f):
-        os.remove(f.file("key.bin"))
-        os.symlink("/dev/zero", f.file("key.bin"))
-        return f.run(says.words)
-
-    yield "no key.bin", refused(says, 1), without
-    yield "key.bin without end", refused(says, 1), without_end
-    yield "key.bin that cannot be opened", refused(says, 1), circular
+    for name, made in (
+        ("no key.bin", None),
+        ("key.bin that cannot be opened", circular),
+        ("key.bin is a link that leads nowhere", leads_nowhere),
+        ("key.bin is a folder", os.mkdir),
+    ):
+        yield name, refused(says, 1), with_file("key.bin", made, says)
     yield "key.bin that may not be read", refused(says, 1), lambda f: f.run(says.words, fault=("open", "key.bin", 0, errno.EACCES, 1))
-    yield "key.bin is a folder", refused(says, 1), folder
+    if says is not SEAL:
+        yield "key.bin without end", refused(says, 1), with_file("key.bin", without_end, says)
+        return
+    # a longer one is good, but not where it fails on the way
+    key, sheet, plain = (content(SAMPLE, name) for name in ("key.bin", "sheet.bin", "plain.bin"))
+    for length in (17, 24, 32, 33, 4096, 10**6):
+        yield "key.bin of %d bytes" % length, Written(says.output, b"", 0), with_file("key.bin", key.ljust(length, b"\xff"), says)
+        yield "key.bin of %d bytes, error after 16" % length, refused(says, 1), (
+            with_file("key.bin", key.ljust(length, b"\xff"), says, ("read", "key.bin", 16, errno.EIO, 1))
+        )
+    yield "key.bin without end", Written(archive.seal(bytes(16), b"", sheet, plain), b"", 0), with_file("key.bin", without_end, says)
 
 
 def tag_files(says):
     """A tag.bin that is missing or empty is no tag key. One that is there and cannot be read, or not to its end, or is too long, is a
     bad one: so an archive of layout 1, which is read where there is no tag key, gets 1 as well."""
-    good = Written(says.output, b"", 0)
-    with open(os.path.join(TAGGED, "tag.bin"), "rb") as file:
-        right = file.read()
+    right = content(TAGGED, "tag.bin")
+    good, mismatch = Written(says.output, b"", 0), refused(says, 24)
+    # what is written on the sample of each layout, without a tag key and under the right one; `seal` has the same of both
+    none, under = {1: good, 2: mismatch}, {1: mismatch, 2: good}
+    if says is SEAL:
+        none, under = {1: good}, {1: Written(content(TAGGED, "archive.bin"), b"", 0)}
 
     def on(layout, tag_file, fault=None, **input):
-        """On the sample of that layout, with a tag.bin of these bytes, or as a function makes it, or none."""
+        """On the sample of that layout."""
 
         def run(f):
             if layout == 2:
                 for name in ("archive.bin", "key.bin"):
                     shutil.copy(os.path.join(TAGGED, name), f.path)
-            if callable(tag_file):
-                tag_file(f.file("tag.bin"))
-            elif tag_file is not None:
-                with open(f.file("tag.bin"), "wb") as file:
-                    file.write(tag_file)
-            return f.run(says.words, fault=fault, **input)
+            return with_file("tag.bin", tag_file, says, fault, **input)(f)
 
         return run
-
-    def circular(path):
-        os.symlink("tag.bin", path)
-
-    def leads_nowhere(path):
-        os.symlink("no such file", path)
-
-    def without_end(path):
-        os.symlink("/dev/zero", path)
 
     for name, tag_file, fault in (
         ("no tag.bin", None, None),
         ("empty tag.bin", b"", None),
         ("tag.bin gone when it is opened", right, ("open", "tag.bin", 0, errno.ENOENT, 1)),
     ):
-        yield "%s, layout 1" % name, good, on(1, tag_file, fault)
-        yield "%s, layout 2" % name, refused(says, 24), on(2, tag_file, fault)
+        for layout, expected in none.items():
+            yield "%s, layout %d" % (name, layout), expected, on(layout, tag_file, fault)
     for name, fault in (
         ("tag.bin", None),
         ("tag.bin in two pieces", ("read", "tag.bin", 16, 0, 1)),
         ("tag.bin broken off once", ("read", "tag.bin", 16, errno.EINTR, 1)),
         ("tag.bin broken off often", ("read", "tag.bin", 16, errno.EINTR, TRIES - 1)),
     ):
-        yield "%s, layout 1" % name, refused(says, 24), on(1, right, fault)
-        yield "%s, layout 2" % name, good, on(2, right, fault)
+        for layout, expected in under.items():
+            yield "%s, layout %d" % (name, layout), expected, on(layout, right, fault)
 
     bad = [
         ("tag.bin is a folder", os.mkdir, None),
@@ -320,24 +378,73 @@ def tag_files(says):
     # what was read until then is nothing, or has a tag key's length, or is the right tag key
     for after in (0, 1, 16, 24, 31, 32):
         bad.append(("tag.bin error after %d bytes" % after, right, ("read", "tag.bin", after, errno.EIO, 1)))
-    for number in (errno.EACCES, errno.EINTR, errno.EIO, errno.EMFILE, errno.ENFILE, errno.ENOTDIR, errno.EPERM):
+    for number in NOT_OPENED:
         bad.append(("tag.bin not opened for %s" % errno.errorcode[number], right, ("open", "tag.bin", 0, number, 1)))
     for name, tag_file, fault in bad:
-        for layout in (1, 2):
+        for layout in none:
             yield "%s, layout %d" % (name, layout), refused(says, 1), on(layout, tag_file, fault)
-    yield "tag.bin is a folder, and no archive", refused(says, 1), on(1, os.mkdir, stdin=subprocess.DEVNULL)
+    yield "tag.bin is a folder, and no input", refused(says, 1), on(1, os.mkdir, stdin=subprocess.DEVNULL)
     yield "tag.bin is a folder, and standard input fails", Written(b"", says.could_not_read, 0), (
-        on(1, os.mkdir, ("read", 0, 20, errno.EIO, 1))
+        on(1, os.mkdir, ("read", 0, says.input.places[2], errno.EIO, 1))
     )
 
 
-def terminals(says):
-    """At a terminal a hint comes first, and changes nothing else: an end of input there is an empty archive."""
+def sheet_files(says):
+    """A sheet.bin that is missing is empty. One that is there and cannot be read, or not to its end, is no sheet of fewer jobs, and is
+    said whatever else is wrong."""
+    failed = Written(b"", b"seal: could not read sheet.bin\n", 0)
+    good = Written(says.output, b"", 0)
+    sheet = content(SAMPLE, "sheet.bin")
+    for name, made, fault in (
+        ("no sheet.bin", None, None),
+        ("empty sheet.bin", b"", None),
+        ("sheet.bin gone when it is opened", sheet, ("open", "sheet.bin", 0, errno.ENOENT, 1)),
+    ):
+        yield name, refused(says, 21), with_file("sheet.bin", made, says, fault)
+    for name, made in (
+        ("sheet.bin is a folder", os.mkdir),
+        ("sheet.bin that cannot be opened", circular),
+        ("sheet.bin is a link that leads nowhere", leads_nowhere),
+    ):
+        yield name, failed, with_file("sheet.bin", made, says)
+    for number in NOT_OPENED:
+        yield "sheet.bin not opened for %s" % errno.errorcode[number], failed, (
+            lambda f, number=number: f.run(says.words, fault=("open", "sheet.bin", 0, number, 1))
+        )
 
-    def archive_typed(f):
+    def broken(after, number, times=1, made=sheet):
+        return with_file("sheet.bin", made, says, ("read", "sheet.bin", after, number, times))
+
+    # at every byte, the ends of its front and of its lines among them
+    for after in range(len(sheet) + 1):
+        yield "sheet.bin error after %d bytes" % after, failed, broken(after, errno.EIO)
+        yield "sheet.bin in two pieces, the first of %d bytes" % after, good, broken(after, 0)
+        yield "sheet.bin broken off after %d bytes" % after, good, broken(after, errno.EINTR)
+    for after in (0, 5, 17, 29):
+        yield "sheet.bin broken off often after %d bytes" % after, good, broken(after, errno.EINTR, TRIES - 1)
+        yield "sheet.bin broken off without end after %d bytes" % after, failed, broken(after, errno.EINTR, TRIES)
+    for number in (errno.EAGAIN, errno.EBADF, errno.ENOMEM, errno.ENXIO):
+        yield "sheet.bin error %s" % errno.errorcode[number], failed, broken(17, number)
+    yield "empty sheet.bin, error at once", failed, broken(0, errno.EIO, made=b"")
+    # what was read until then is refused by itself, or would be with another byte
+    for length, after in ((773, 773), (774, 774), (785, 773), (785, 785), (797, 785), (4097, 4096), (360005, 65536), (360005, 360005)):
+        made = sheet.ljust(length, b"\0")
+        yield "sheet.bin of %d bytes, error after %d" % (length, after), failed, broken(after, errno.EIO, made=made)
+    fault = ("read", "sheet.bin", 17, errno.EIO, 1)
+    for name, made in (("key.bin", None), ("tag.bin", os.mkdir), ("plain.bin", b"")):
+        yield "sheet.bin fails, and %s is bad" % name, failed, with_file(name, made, says, fault)
+    yield "no sheet.bin, and standard input fails", Written(b"", says.could_not_read, 0), (
+        with_file("sheet.bin", None, says, ("read", 0, 2, errno.EIO, 1))
+    )
+    yield "sheet.bin fails, and words", failed._replace(stderr=says.usage + failed.stderr), lambda f: f.run(["--help"], fault=fault)
+
+
+def terminals(says):
+    """At a terminal a hint comes first, and changes nothing else: an end of input there is an empty one."""
+
+    def input_typed(f):
         """An end-of-input key hands the line over first, and ends the input where the line is empty."""
-        with open(f.file("archive.bin"), "rb") as file:
-            return at_terminal(f, says.words, file.read() + b"\x04\x04")
+        return at_terminal(f, says.words, content(f.path, says.input.name) + b"\x04\x04")
 
     def before_typing(f):
         """The hint is there while the program still waits."""
@@ -356,15 +463,17 @@ def terminals(says):
         os.close(there)
         return written._replace(stderr=hint + written.stderr)
 
-    empty = refused(says, 5)
+    empty = refused(says, says.input.empty)
     yield "at a terminal", empty._replace(stderr=says.usage + empty.stderr), lambda f: at_terminal(f, says.words, b"\x04")
     yield "at a terminal, before a word is typed", empty._replace(stderr=says.usage + empty.stderr), before_typing
-    yield "archive typed at a terminal", Written(says.output, says.usage, 0), archive_typed
+    yield "input typed at a terminal", Written(says.output, says.usage, 0), input_typed
 
 
-def words_of_jobs(says):
+def words_not_taken(says):
     for words in (["24000017"], ["--help"], ["a", "b"], [""]):
         yield "words %s" % words, Written(says.output, says.usage, 0), lambda f, words=words: f.run(words)
+    empty = refused(says, says.input.empty)._replace(stderr=says.usage)
+    yield "a word, at a terminal", empty, lambda f: at_terminal(f, ["--help"], b"\x04")
 
 
 def words_of_open(says):
@@ -416,8 +525,8 @@ def words_of_ranges(says):
 
 def cases(says):
     """Each case of a program: its name, what is to be written, and how it is run in a folder."""
-    words = {JOBS: words_of_jobs, OPEN: words_of_open, OPEN_RANGE: words_of_ranges}[says]
-    for group in (whole, writing, reading, key_files, tag_files, terminals, words):
+    own = {JOBS: [words_not_taken], OPEN: [words_of_open], OPEN_RANGE: [words_of_ranges], SEAL: [words_not_taken, sheet_files]}[says]
+    for group in (whole, writing, reading, key_files, tag_files, terminals, *own):
         yield from group(says)
 
 
@@ -425,6 +534,7 @@ def main():
     parser = argparse.ArgumentParser(description=__doc__.splitlines()[0])
     parser.add_argument("--jobs", required=True)
     parser.add_argument("--open", required=True)
+    parser.add_argument("--seal", required=True)
     options = parser.parse_args()
     agreed = differed = 0
     with tempfile.TemporaryDirectory(prefix="programs-") as built:
@@ -434,9 +544,8 @@ def main():
             check=True,
         )
         for says in PROGRAMS:
-            program = options.jobs if says is JOBS else options.open
             for name, expected, run in cases(says):
-                with Folder(program, faults) as folder:
+                with Folder(getattr(options, says.name), says.input.name, faults) as folder:
                     written = run(folder)
                 agreed += written == expected
                 differed += written != expected
