@@ -415,6 +415,12 @@ def sheet_files(says):
     def broken(after, number, times=1, made=sheet):
         return with_file("sheet.bin", made, says, ("read", "sheet.bin", after, number, times))
 
+    def unreadable_keys(f):
+        for name in ("key.bin", "tag.bin"):
+            f.put(name, os.mkdir)
+        f.put("sheet.bin", None)
+        return f.run(says.words)
+
     # at every byte, the ends of its front and of its lines among them
     for after in range(len(sheet) + 1):
         yield "sheet.bin error after %d bytes" % after, failed, broken(after, errno.EIO)
@@ -433,6 +439,11 @@ def sheet_files(says):
     fault = ("read", "sheet.bin", 17, errno.EIO, 1)
     for name, made in (("key.bin", None), ("tag.bin", os.mkdir), ("plain.bin", b"")):
         yield "sheet.bin fails, and %s is bad" % name, failed, with_file(name, made, says, fault)
+    yield "no sheet.bin, and key.bin and tag.bin are folders", refused(says, 21), unreadable_keys
+    # an input of no bytes is all that these jobs need
+    none = Written(archive.seal(content(SAMPLE, "key.bin"), b"", sheet[:5], b""), b"", 0)
+    yield "no jobs, and an empty input", none, with_file("sheet.bin", sheet[:5], says, stdin=subprocess.DEVNULL)
+    yield "no jobs, and standard input closed", none, with_file("sheet.bin", sheet[:5], says, shell="<&-")
     yield "no sheet.bin, and standard input fails", Written(b"", says.could_not_read, 0), (
         with_file("sheet.bin", None, says, ("read", 0, 2, errno.EIO, 1))
     )
