@@ -36,7 +36,7 @@ def sealings():
         else:
             yield from ((case, room) for room in rooms(length))
     # every length of a buffer, before 20 and past it
-    for tag_key in (None, sheets.TAG_KEY):
+    for tag_key in (None, cases.TAG_KEY):
         for sheet in (sheets.Sheet([], tag_key), sheets.sample(tag_key), sheets.Sheet(tag_key=tag_key, key_length=24)):
             case = sheet.case("%d jobs, buffers of every length" % len(sheet.lines), 0)
             yield from ((case, room) for room in range(160))

@@ -17,8 +17,9 @@ TAG_FILE = bytes(range(0x10, 0x100)) * 300
 PLAIN = random.Random(0).randbytes(300000)
 # What the first byte of a sheet may say, and the key length that it means.
 KEY_LENGTHS = {0: 16, 16: 16, 24: 24, 32: 32}
-# Lengths of sheets: all short ones, and about those of 64 and 65 jobs, of pages, and of 30,000 jobs.
-SHEET_LENGTHS = [*range(41), *range(760, 800), *range(4088, 4108), *range(8188, 8200), *range(65530, 65548), *range(360000, 360020)]
+# Lengths of sheets: all short ones, and about those of 64 and 65 jobs, of pages, of what the program reads at a time, and of 30,000 jobs.
+SHEET_LENGTHS = [*range(41), *range(760, 800), *range(4088, 4108), *range(4880, 4900), *range(8188, 8200), *range(8976, 8992)]
+SHEET_LENGTHS += [*range(65530, 65548), *range(360000, 360020)]
 
 
 class Case(namedtuple("Case", "name key_file tag_key sheet plain refusal")):

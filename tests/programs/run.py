@@ -433,9 +433,11 @@ def sheet_files(says):
         yield "sheet.bin error %s" % errno.errorcode[number], failed, broken(17, number)
     yield "empty sheet.bin, error at once", failed, broken(0, errno.EIO, made=b"")
     # what was read until then is refused by itself, or would be with another byte
-    for length, after in ((773, 773), (774, 774), (785, 773), (785, 785), (797, 785), (4097, 4096), (360005, 65536), (360005, 360005)):
-        made = sheet.ljust(length, b"\0")
-        yield "sheet.bin of %d bytes, error after %d" % (length, after), failed, broken(after, errno.EIO, made=made)
+    for length in (773, 774, 785, 796, 797, 4888, 4889, 360005):
+        for after in (17, 773, 785, 796, 4096, 4888, 65536, 360005):
+            if after <= length:
+                made = sheet.ljust(length, b"\0")
+                yield "sheet.bin of %d bytes, error after %d" % (length, after), failed, broken(after, errno.EIO, made=made)
     fault = ("read", "sheet.bin", 17, errno.EIO, 1)
     for name, made in (("key.bin", None), ("tag.bin", os.mkdir), ("plain.bin", b"")):
         yield "sheet.bin fails, and %s is bad" % name, failed, with_file(name, made, says, fault)
