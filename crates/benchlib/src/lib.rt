@@ -1,5 +1,5 @@
-// Calls that `libaria.a` does not export, for the bench of host/ and the tests alone: counter mode under a key, checking an archive, opening
-// a job of it and sealing one, with one number for the answer.
+// Calls that `libaria.a` does not export, for the bench of host/ and the tests alone: counter mode under a key, checking an archive,
+// opening a job of it and sealing one, with one number for the answer.
 use archive::Checked;
 use expansion::Outcome;
 use opening::Opened;

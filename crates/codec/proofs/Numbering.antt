@@ -1,19 +1,19 @@
 -- Rows that bear the numbers of jobs: good jobs make rows of digits that ascend, and such rows make good jobs. A directory is so.
 -- Assumes nothing.
-use mathlib.Core.Path.{_≡_, refl, sym, ap, _∙_}
-use mathlib.Core.Bool.{Bool, true, false}
+use mathlib.Core.Path.{_≡_, sym, ap, _∙_}
+use mathlib.Core.Bool.{true}
 use mathlib.Core.List.{List}
 use Prim.Native.Nat.{ℕ, _<_, _≤_}
 use native.Mathlib.Omega.{arith}
-use borrow.Author.Tests.{ltb-true, ltb-false, eqb-true, eq-eqb}
-use lib.Dec.{eqb, ltb}
+use borrow.Author.Tests.{eqb-true, eq-eqb}
+use lib.Dec.{eqb}
 use lib.ListN.{length}
 use lib.Seq.{getD-take, length-take-le}
 use Rattle.refusals.proofs.Booleans.{both-true}
 use Rattle.octets.specs.Tables.{values}
 use Rattle.octets.proofs.Below.{all-same}
 use Rattle.jobnumber.specs.Number.{digits, isJobNumber, orderOf}
-use Rattle.jobnumber.proofs.Order.{order-front, same-order}
+use Rattle.jobnumber.proofs.Order.{order-front}
 use Rattle.directory.specs.Entries.{numberOf}
 use Rattle.codec.specs.Jobs.{Job, jobIn, Each, Ascending}
 use Rattle.codec.proofs.JobLaws.{each-at, each-values, ascending-at, ascending-values}

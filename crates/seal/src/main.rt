@@ -11,7 +11,11 @@ fn print_usage() {
     io::write_all(STDERR_FILENO, b"usage: seal < PLAIN > ARCHIVE\n");
     io::write_all(
         STDERR_FILENO,
-        b"seals the jobs of sheet.bin, their plain bytes end to end on standard input, under key.bin of this folder and, if there, tag.bin\n",
+        b"seals the jobs of sheet.bin, their plain bytes end to end on standard input, ",
+    );
+    io::write_all(
+        STDERR_FILENO,
+        b"under key.bin of this folder and, if there, tag.bin\n",
     );
 }
 

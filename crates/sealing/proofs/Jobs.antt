@@ -6,13 +6,11 @@ use Prim.Native.Nat.{ℕ, zero, suc, _+_, _<_, _≤_}
 use native.Mathlib.Omega.{arith}
 use lib.ListN.{length, take, drop, length-append, length-drop, drop-of-length-le}
 use lib.Seq.{length-take-le}
-use Rattle.octets.specs.Tables.{values}
 use Rattle.octets.proofs.Tables.{values-length, values-at}
-use Rattle.blocks.specs.Blocks.{row}
 use Rattle.circuit.specs.declared.Schedule.{Schedule}
 use Rattle.codec.specs.Jobs.{Job, noJob, bodiesIn, jobIn, startAt, Each, Ascending}
 use Rattle.codec.specs.Jobs.{none, more}
-use Rattle.codec.proofs.JobLaws.{start-first, start-next, start-end, tiled, bodies-row}
+use Rattle.codec.proofs.JobLaws.{start-first, start-next, start-end, tiled}
 use Rattle.opening.specs.Open.{underKeystream}
 use Rattle.opening.proofs.Xor.{opening-xors}
 use Rattle.sheet.specs.Sheet.{lines, jobOn, sizeOn, sizesOn}

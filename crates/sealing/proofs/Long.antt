@@ -1,16 +1,16 @@
--- What the program does not hand on does not matter: a long sheet and a long input are refused alike, and of a key file the front is the key.
+-- What the program does not hand on does not matter: a long sheet and a long input are refused alike, and a key file's front is the key.
 -- Assumes nothing.
 use mathlib.Core.Path.{_≡_, refl, sym, ap, ap₂, _∙_, subst}
 use mathlib.Core.Bool.{Bool, true, false, not, _&&_}
-use mathlib.Core.List.{List, [], _∷_, _++_}
-use Prim.Native.Nat.{ℕ, _+_, _*_, _-_, _/_, _%_, _<_, _≤_}
+use mathlib.Core.List.{List, [], _∷_}
+use Prim.Native.Nat.{ℕ, _+_, _-_, _%_, _<_, _≤_}
 use native.Mathlib.Omega.{arith}
 use borrow.Author.Tests.{ltb-true, ltb-false, lt-ltb, le-ltb, le-leb}
 use lib.Dec.{leb, ltb, eqb}
-use lib.ListN.{length, getD, take, drop, length-take}
+use lib.ListN.{length, getD, take, length-take}
 use lib.Seq.{take-all, take-take, getD-take, length-take-le}
-use Rattle.refusals.specs.Cases.{Case, when, firstOf}
-use Rattle.refusals.specs.Answers.{Answer, refused, gives, answer, writtenFor}
+use Rattle.refusals.specs.Cases.{when, firstOf}
+use Rattle.refusals.specs.Answers.{refused, answer}
 use Rattle.refusals.specs.Shared.{tagKeyCases}
 use Rattle.refusals.proofs.Booleans.{same-test}
 use Rattle.refusals.proofs.Cases.{first-alike, first-stop, stop, skip}
@@ -19,7 +19,6 @@ use Rattle.refusals.proofs.Shared.{key-most, tag-key-positive}
 use Rattle.header.specs.Fields.{layoutUnder}
 use Rattle.sheet.specs.Sheet.{keySizeOf, keySizeOn, lines, sizesOn}
 use Rattle.sheet.specs.Cases.{isLength, isKeyLength, sheetCases, linesCases}
-use Rattle.sheet.specs.Long.{cutSheet}
 use Rattle.sheet.proofs.Long.{cut-long, cut-short}
 use Rattle.sheet.proofs.Cases.{sheet-positive, sheet-good, key-size-good, lines-positive, too-many}
 use Rattle.sealing.specs.Seal.{keyOn, sealedFile, lengthOn, keyFileCases, lengthCases, restCases, sealCases, sealOf, Seals}
@@ -66,7 +65,8 @@ long-key-file keyFile tagKey sheet plain before a after s =
           file-same (take 32 keyFile) keyFile tagKey sheet plain (take-take (keySizeOn sheet) 32 keyFile most));
     }
   where
-    file-same : (f g tagKey sheet plain : List ℕ) → keyOn f sheet ≡ keyOn g sheet → sealedFile f tagKey sheet plain ≡ sealedFile g tagKey sheet plain
+    file-same : (f g tagKey sheet plain : List ℕ) → keyOn f sheet ≡ keyOn g sheet
+        → sealedFile f tagKey sheet plain ≡ sealedFile g tagKey sheet plain
     file-same f g tagKey sheet plain e = rw e
 
 -- ---- the plain bytes
@@ -156,7 +156,8 @@ module _ (sheet : List ℕ) (l : 785 < length sheet) where
   sheet-alike : firstOf (sheetCases cut) ≡ firstOf (sheetCases sheet)
   unfolding sheetCases isLength
   sheet-alike =
-      let five : leb 5 (length cut) ≡ leb 5 (length sheet) = le-leb 5 (length cut) (omega (arith, cut-length)) ∙ sym (le-leb 5 (length sheet) (omega arith)) in
+      let five : leb 5 (length cut) ≡ leb 5 (length sheet) =
+      le-leb 5 (length cut) (omega (arith, cut-length)) ∙ sym (le-leb 5 (length sheet) (omega arith)) in
       let left : (length cut - 5) % 12 ≡ (length sheet - 5) % 12 = omega (arith, cut-length) in
       ap₂ (λ (b c : Bool). firstOf (when (not b) 21 ∷ when (not c) 22 ∷ []))
       (ap₂ (λ (b : Bool) (m : ℕ). b && eqb m 0) five left)

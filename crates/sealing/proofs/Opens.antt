@@ -4,45 +4,43 @@ use mathlib.Core.Path.{_≡_, refl, sym, ap, ap₂, _∙_, subst}
 use mathlib.Core.Bool.{true}
 use mathlib.Core.List.{List, _++_}
 use Prim.Native.Nat.{ℕ, _+_, _*_, _<_, _≤_}
-use native.Mathlib.Nat.{zero-add}
 use native.Mathlib.Omega.{arith}
 use lib.ListN.{length, take, drop, length-take}
 use lib.Seq.{take-at, drop-at, take-all}
 use Rattle.refusals.specs.Cases.{firstOf}
 use Rattle.refusals.specs.Answers.{Answer, gives, writtenFor}
-use Rattle.refusals.specs.Shared.{goodKey, keyCases, tagKeyCases}
+use Rattle.refusals.specs.Shared.{keyCases}
 use Rattle.refusals.proofs.Answers.{answer-gives}
 use Rattle.refusals.proofs.Shared.{key-0}
 use Rattle.blocks.specs.Blocks.{row}
 use Rattle.blocks.proofs.Rows.{row-same}
 use Rattle.expansion.specs.KeySchedule.{scheduleOf}
-use Rattle.header.specs.Fields.{layoutUnder, countOf, archiveNumber, directoryEnd, directoryOf}
+use Rattle.header.specs.Fields.{layoutUnder, directoryOf}
 use Rattle.jobnumber.specs.Number.{isJobNumber, orderOf}
 use Rattle.jobnumber.proofs.Ascending.{above-all}
-use Rattle.directory.specs.Entries.{entries, entryAt, numberOf, startOf, sizeOf}
+use Rattle.directory.specs.Entries.{entryAt, numberOf, startOf, sizeOf}
 use Rattle.directory.specs.Search.{indexOf}
 use Rattle.bodies.specs.Bodies.{bodyAt}
 use Rattle.admission.specs.Check.{checkCases}
 use Rattle.archive.specs.Check.{checkOf}
 use Rattle.archive.specs.Find.{findCases}
 use Rattle.archive.proofs.Finding.{find-bearer}
-use Rattle.codec.specs.Jobs.{Job, bodiesIn, jobIn, startAt}
-use Rattle.codec.specs.Archive.{archiveOf, Fine}
+use Rattle.codec.specs.Jobs.{Job, jobIn, startAt}
+use Rattle.codec.specs.Archive.{Fine}
 use Rattle.codec.specs.Theorems.{ReadsBack}
 use Rattle.codec.proofs.JobLaws.{each-at, bodies-row}
 use Rattle.codec.proofs.Numbering.{jobs-numeric, jobs-ascend}
 use Rattle.codec.proofs.Laid.{Laid}
 use Rattle.codec.proofs.Built.{built-laid, built-reads}
-use Rattle.opening.specs.Open.{underKeystream, bodyOf, plainOf, jobSize, rangeOf, plainRange, openOf, Opens}
+use Rattle.opening.specs.Open.{underKeystream, bodyOf, plainOf, jobSize, rangeOf, Opens}
 use Rattle.opening.proofs.Opening.{opens-none}
 use Rattle.opening.proofs.Xor.{opening-xors}
-use Rattle.sheet.specs.Sheet.{keySizeOf, keySizeOn, numberOn, lines, lineAt, jobOn, sizeOn, sizesOn}
-use Rattle.sheet.specs.Cases.{isKeyLength}
+use Rattle.sheet.specs.Sheet.{numberOn, lines, lineAt, jobOn, sizeOn, sizesOn}
 use Rattle.sheet.proofs.LineLaws.{number-length, line-length}
 use Rattle.sheet.proofs.Cases.{key-size-good}
-use Rattle.sealing.specs.Seal.{keyOn, plainOn, jobsOn, sealJobs, sealedFile, lengthOn, sealCases, sealOf, Seals}
+use Rattle.sealing.specs.Seal.{keyOn, plainOn, jobsOn, sealJobs, sealedFile, lengthOn, sealCases, Seals}
 use Rattle.sealing.specs.Internal.{bodyOn}
-use Rattle.sealing.specs.Opens.{OpensTo, SealedArchive, SealedOpen, SealedOpens}
+use Rattle.sealing.specs.Opens.{OpensTo, SealedArchive, SealedOpens}
 use Rattle.sealing.proofs.Cases.{SealGood, seal-good}
 use Rattle.sealing.proofs.Jobs.{sealed-each, sealed-ascending, jobs-length, job-at, plain-length, bodies-all}
 use Rattle.sealing.proofs.Written.{sealed-count, sealed-job, sealed-body, sealed-start, length-on, key-length}
@@ -81,7 +79,9 @@ module _ (keyFile tagKey sheet plain : List ℕ) (room : ℕ) (g : SealGood keyF
   }
 
   good-key : firstOf (keyCases (length key)) ≡ 0
-  good-key = ap (λ (n : ℕ). firstOf (keyCases n)) (key-length keyFile tagKey sheet plain (g .keyed) exact) ∙ key-0 _ (key-size-good sheet (g .sheeted .sized))
+  good-key =
+      ap (λ (n : ℕ). firstOf (keyCases n)) (key-length keyFile tagKey sheet plain (g .keyed) exact)
+      ∙ key-0 _ (key-size-good sheet (g .sheeted .sized))
 
   back : ReadsBack key tagKey (numberOn sheet) ks file
   unfolding sealedFile

@@ -2,7 +2,7 @@
 -- Assumes nothing.
 use mathlib.Core.Path.{_≡_, refl, sym, ap, ap₂, _∙_}
 use mathlib.Core.Bool.{true}
-use mathlib.Core.List.{List, [], _∷_, _++_, append-nil}
+use mathlib.Core.List.{List, [], _++_, append-nil}
 use Prim.Native.Nat.{ℕ, zero, suc, _+_, _*_, _-_, _<_, _≤_}
 use native.Mathlib.Omega.{arith}
 use lib.ListN.{length, getD, take, drop, length-append, length-take}
@@ -20,8 +20,7 @@ use Rattle.blocks.proofs.Rows.{length-parts, part-at, row-same}
 use Rattle.expansion.specs.KeySchedule.{scheduleOf}
 use Rattle.header.specs.Fields.{layoutUnder, countOf, archiveNumber, directoryOf}
 use Rattle.header.proofs.Accepted.{HeaderGood}
-use Rattle.jobnumber.specs.Number.{digits, isJobNumber, orderOf}
-use Rattle.jobnumber.specs.Ascending.{ascendsIn}
+use Rattle.jobnumber.specs.Number.{isJobNumber, orderOf}
 use Rattle.jobnumber.proofs.Ascending.{before-above}
 use Rattle.directory.specs.Entries.{entryAt, numberOf, sizeOf}
 use Rattle.directory.specs.Search.{indexOf}
@@ -39,11 +38,11 @@ use Rattle.codec.proofs.Laid.{Laid}
 use Rattle.codec.proofs.Rebuilt.{accepted-fine, accepted-laid, whole-length, rebuilt}
 use Rattle.opening.specs.Open.{underKeystream, plainOf}
 use Rattle.opening.proofs.Xor.{opening-xors}
-use Rattle.sheet.specs.Sheet.{keySizeOf, keySizeOn, numberOn, lines, lineAt, jobOn, sizeOn, sizesOn}
+use Rattle.sheet.specs.Sheet.{keySizeOf, numberOn, lines, lineAt, jobOn, sizeOn, sizesOn}
 use Rattle.sheet.proofs.LineLaws.{line-inside}
 use Rattle.sheet.proofs.Cases.{key-length-good}
-use Rattle.sealing.specs.Seal.{keyOn, plainOn, jobsOn, sealJob, sealJobs, sealedFile, lengthOn, sealCases, Seals}
-use Rattle.sealing.specs.Rebuilds.{lineOf, sheetOf, plainsOf, Rebuilds, SealRebuilds}
+use Rattle.sealing.specs.Seal.{keyOn, plainOn, jobsOn, sealJobs, sealedFile, lengthOn}
+use Rattle.sealing.specs.Rebuilds.{lineOf, sheetOf, plainsOf, SealRebuilds}
 use Rattle.sealing.proofs.Cases.{SealGood, seal-none}
 use Rattle.sealing.proofs.Jobs.{sealed-twice, sealed-length, sealed-at, sealed-bodies}
 
@@ -162,7 +161,8 @@ module _ (key tagKey file : List ℕ) (n : ℕ) (e : checkOf key tagKey file ≡
       let d : List ℕ = numberOf (entryAt (directoryOf file) i) in
       let is : isJobNumber d ≡ true = ap isJobNumber (number i l) ∙ each-at (fine .numeric) i l in
       let found = find-bearer key tagKey file d none is i (omega (arith, laid .whole)) refl in
-      ap (λ (j : ℕ). underKeystream (scheduleOf key) name d (bodyAt file j)) (answer-gives (firstOf (findCases key tagKey file d)) (indexOf (directoryOf file) d) i found .1)
+      let index = answer-gives (firstOf (findCases key tagKey file d)) (indexOf (directoryOf file) d) i found .1 in
+      ap (λ (j : ℕ). underKeystream (scheduleOf key) name d (bodyAt file j)) index
       ∙ ap₂ (λ (x b : List ℕ). underKeystream (scheduleOf key) name x b) (number i l) (laid .body i l)
       ∙ ap (λ (j : Job). j .body) (sym (sealed-at (scheduleOf key) name js i l))
 

@@ -2,7 +2,7 @@
 -- Assumes nothing.
 use mathlib.Core.Path.{_≡_, refl, sym, ap, ap₂, _∙_}
 use mathlib.Core.Bool.{true}
-use mathlib.Core.List.{List, [], _∷_, _++_, append-assoc, append-nil}
+use mathlib.Core.List.{List, [], _∷_, _++_, append-assoc}
 use Prim.Native.Nat.{ℕ, _+_, _*_, _<_, _≤_}
 use native.Mathlib.Omega.{arith}
 use denote.Enum.Declared.{tagOf as variantOf}
@@ -12,8 +12,8 @@ use lib.ListN.{length, take, drop, length-append, length-drop}
 use lib.Seq.{take-at, drop-at, drop-drop, length-take-le}
 use Rattle.refusals.specs.Cases.{firstOf}
 use Rattle.refusals.specs.Answers.{Answer, refused, gives, answer, unlessRefused, writtenFor}
-use Rattle.refusals.specs.Shared.{goodRounds, goodKey, keyCases, tagKeyCases, roundsCases}
-use Rattle.refusals.proofs.Answers.{answer-none, answer-gives, answer-first, refusal-is}
+use Rattle.refusals.specs.Shared.{goodRounds, goodKey, tagKeyCases, roundsCases}
+use Rattle.refusals.proofs.Answers.{answer-none, answer-first, refusal-is}
 use Rattle.refusals.proofs.Cases.{first-pass, first-stop, one-applies}
 use Rattle.refusals.proofs.Shared.{key-0, tag-key-positive, tag-key-none, tag-key-some, rounds-0}
 use Rattle.octets.specs.Parts.{laid, Puts, Put}
@@ -31,19 +31,19 @@ use Rattle.cmac.specs.Tag.{tagUnder, Tags}
 use Rattle.cmac.specs.declared.Tagged.{Tagged}
 use Rattle.cmac.proofs.Laws.{tag-size}
 use Rattle.header.specs.Fields.{layoutUnder, tagSize}
-use Rattle.header.proofs.Layouts.{tag-16, tag-none, layout-1, layout-2}
+use Rattle.header.proofs.Layouts.{layout-1, layout-2}
 use Rattle.admission.specs.Check.{keyCheck, tagBytes}
 use Rattle.admission.proofs.Tags.{tag-under, tag-absent}
 use Rattle.codec.proofs.Lengths.{check-length}
 use Rattle.codec.proofs.Parts.{header-length}
-use Rattle.sheet.specs.Sheet.{keySizeOn, numberOn, lines, sizesOn}
+use Rattle.sheet.specs.Sheet.{keySizeOn, numberOn, lines}
 use Rattle.sheet.specs.Cases.{sheetCases}
 use Rattle.sheet.proofs.LineLaws.{number-length}
 use Rattle.sheet.proofs.Cases.{sheet-positive, sheet-good, key-size-good}
-use Rattle.sealing.specs.Seal.{keyOn, sealedFile, lengthOn, keyFileCases, restCases, sealCases, sealOf, Seals}
-use Rattle.sealing.specs.Internal.{headerOn, entryOn, directoryOn, bodiesOn, frontOn, Lined, Measured, SealsRest, SealsUnder}
-use Rattle.sealing.proofs.Cases.{rest-positive, RestGood, rest-good, key-file-positive, key-file-none, written-same, given-good}
-use Rattle.sealing.proofs.Written.{next-piece, entry-sixteen, bodies-size, key-length, file-on}
+use Rattle.sealing.specs.Seal.{keyOn, lengthOn, keyFileCases, restCases, sealCases, sealOf, Seals}
+use Rattle.sealing.specs.Internal.{headerOn, entryOn, directoryOn, bodiesOn, frontOn, Measured, SealsRest, SealsUnder}
+use Rattle.sealing.proofs.Cases.{RestGood, rest-good, key-file-positive, key-file-none, written-same, given-good}
+use Rattle.sealing.proofs.Written.{next-piece, entry-sixteen, bodies-size, file-on}
 
 -- ---- writing all but the tag
 
@@ -83,7 +83,8 @@ module _ (layout : ℕ) (s : Schedule) (sheet plain : List ℕ) (m : Measured sh
   pub front-written : (before h d b out₁ out₂ out₃ : List ℕ) (k₁ k₂ at k₃ r : ℕ)
       → h ≡ headerOn layout s sheet → d ≡ directoryOn sheet from → b ≡ bodiesOn s sheet plain → out₁ ≡ h ++ drop k₁ before
       → out₂ ≡ take 20 out₁ ++ (d ++ drop k₂ (drop 20 out₁)) → out₃ ≡ take at out₂ ++ (b ++ drop k₃ (drop at out₂)) → k₁ ≡ 20
-      → k₂ ≡ 16 * lines sheet → at ≡ from → k₃ ≡ length plain → r ≡ from + length plain → (r ≡ length front) × (out₃ ≡ front ++ drop r before)
+      → k₂ ≡ 16 * lines sheet → at ≡ from → k₃ ≡ length plain → r ≡ from + length plain
+      → (r ≡ length front) × (out₃ ≡ front ++ drop r before)
   unfolding frontOn
   front-written before h d b out₁ out₂ out₃ k₁ k₂ at k₃ r eh ed eb e₁ e₂ e₃ z₁ z₂ za z₃ er =
       let lh : length h ≡ 20 = ap length eh ∙ header-size in
@@ -223,6 +224,15 @@ module _ (s : Schedule) (tagKey sheet plain before : List ℕ) where
 
 -- ---- the sheet and the key file
 
+-- a key file that is long enough for a sheet without a case gives a key that is not refused
+pub key-taken : (keyFile sheet : List ℕ) → firstOf (sheetCases sheet) ≡ 0 → keySizeOn sheet ≤ length keyFile → (p : Prepared)
+    → Prepares (keyOn keyFile sheet) p → OneOf (1 ∷ 2 ∷ []) (variantOf outcome.the-type (p .outcome)) → ⊥
+key-taken keyFile sheet none enough p r t =
+    let good : goodKey (length (keyOn keyFile sheet)) ≡ true =
+    ap goodKey (length-take-le (keySizeOn sheet) keyFile enough) ∙ key-size-good sheet (sheet-good sheet none .sized)
+    in
+    number-else (p .outcome) t (r .number ∙ key-0 _ good)
+
 module _ (keyFile tagKey sheet plain before : List ℕ) where
   -- the sheet is refused
   pub sheet-refused : (n : ℕ) → n ≡ firstOf (sheetCases sheet) → (n ≡ 0 → ⊥) → Seals keyFile tagKey sheet plain before (refused n) before
@@ -242,37 +252,25 @@ module _ (keyFile tagKey sheet plain before : List ℕ) where
     unfolding writtenFor keyFileCases
     key-file-short l =
         let one = one-applies _ 1 (lt-ltb (length keyFile) (keySizeOn sheet) l) in
+        let all = asked ∙ first-stop (keyFileCases (length keyFile) (keySizeOn sheet)) _ (λ q. omega (arith, one)) ∙ one in
+        record { answered = refusal-is 1 _ _ (sym all) (λ q. omega arith); bytes = refl }
+
+    pub sealed-under : keySizeOn sheet ≤ length keyFile → (s : Schedule) (a : Answer) (after : List ℕ)
+        → s ≡ scheduleOf (keyOn keyFile sheet) → SealsUnder s tagKey sheet plain before a after
+        → Seals keyFile tagKey sheet plain before a after
+    sealed-under enough s a after es u =
+        let rest = tagKeyCases (length tagKey) ++ restCases (layoutUnder tagKey) sheet (length plain) (length before) in
+        let pass = first-pass (keyFileCases (length keyFile) (keySizeOn sheet)) rest (key-file-positive _ _) (key-file-none _ _ enough) in
+        let answered : a ≡ sealOf keyFile tagKey sheet (length plain) (length before) =
+        u .answered ∙ ap (λ (n : ℕ). answer n (lengthOn (layoutUnder tagKey) sheet)) (sym (asked ∙ pass)) in
         record {
-          answered =
-              refusal-is 1 _ _ (sym (asked ∙ first-stop (keyFileCases (length keyFile) (keySizeOn sheet)) _ (λ q. omega (arith, one)) ∙ one))
-              (λ q. omega arith);
-          bytes = refl;
+          answered = answered;
+          bytes =
+              u .bytes
+              ∙ ap (λ (t : Schedule). writtenFor a (frontOn (layoutUnder tagKey) t sheet plain
+              ++ tagBytes tagKey (frontOn (layoutUnder tagKey) t sheet plain)) before) es
+              ∙ written-same a _ _ before
+              (λ n g.
+              let good = given-good keyFile tagKey sheet (length plain) (length before) n a answered g in
+              file-on keyFile tagKey sheet plain enough (good .rest .fits .exact));
         }
-
-    module _ (enough : keySizeOn sheet ≤ length keyFile) where
-      good-key : goodKey (length (keyOn keyFile sheet)) ≡ true
-      good-key =
-          ap goodKey (length-take-le (keySizeOn sheet) keyFile enough) ∙ key-size-good sheet (sheet-good sheet none .sized)
-
-      -- so the key is not refused
-      pub key-taken : (p : Prepared) → Prepares (keyOn keyFile sheet) p → OneOf (1 ∷ 2 ∷ []) (variantOf outcome.the-type (p .outcome)) → ⊥
-      key-taken p r t = number-else (p .outcome) t (r .number ∙ key-0 _ good-key)
-
-      pub sealed-under : (s : Schedule) (a : Answer) (after : List ℕ) → s ≡ scheduleOf (keyOn keyFile sheet)
-          → SealsUnder s tagKey sheet plain before a after → Seals keyFile tagKey sheet plain before a after
-      sealed-under s a after es u =
-          let rest = tagKeyCases (length tagKey) ++ restCases (layoutUnder tagKey) sheet (length plain) (length before) in
-          let pass = first-pass (keyFileCases (length keyFile) (keySizeOn sheet)) rest (key-file-positive _ _) (key-file-none _ _ enough) in
-          let answered : a ≡ sealOf keyFile tagKey sheet (length plain) (length before) =
-          u .answered ∙ ap (λ (n : ℕ). answer n (lengthOn (layoutUnder tagKey) sheet)) (sym (asked ∙ pass)) in
-          record {
-            answered = answered;
-            bytes =
-                u .bytes
-                ∙ ap (λ (t : Schedule). writtenFor a (frontOn (layoutUnder tagKey) t sheet plain
-                ++ tagBytes tagKey (frontOn (layoutUnder tagKey) t sheet plain)) before) es
-                ∙ written-same a _ _ before
-                (λ n g.
-                let good = given-good keyFile tagKey sheet (length plain) (length before) n a answered g in
-                file-on keyFile tagKey sheet plain enough (good .rest .fits .exact));
-          }

@@ -7,10 +7,10 @@ use native.Mathlib.Omega.{arith}
 use lib.ListN.{length, take, drop, length-append}
 use lib.Seq.{take-at, drop-at, drop-drop, length-take-le}
 use Rattle.blocks.specs.Blocks.{row}
-use Rattle.blocks.proofs.Rows.{length-row, row-same}
+use Rattle.blocks.proofs.Rows.{row-same}
 use Rattle.circuit.specs.declared.Schedule.{Schedule}
 use Rattle.expansion.specs.KeySchedule.{scheduleOf}
-use Rattle.header.specs.Fields.{layoutUnder, tagSize}
+use Rattle.header.specs.Fields.{layoutUnder}
 use Rattle.admission.specs.Check.{keyCheck, tagBytes}
 use Rattle.codec.specs.Jobs.{Job, entryOf, directoryFrom, bodiesIn, jobIn, startAt}
 use Rattle.codec.specs.Archive.{wholeLength, headerOf, frontOf, archiveOf}
@@ -154,7 +154,8 @@ module _ (keyFile tagKey sheet plain : List ℕ) (keyed : keySizeOn sheet ≤ le
       let head : headerOn (layoutUnder tagKey) (scheduleOf key) sheet
       ≡ headerOf (layoutUnder tagKey) (length key) (length js) (numberOn sheet) (keyCheck (scheduleOf key))
       (wholeLength (layoutUnder tagKey) js) =
-      ap₂ (λ (k c : ℕ). headerOf (layoutUnder tagKey) k c (numberOn sheet) (keyCheck (scheduleOf key)) (lengthOn (layoutUnder tagKey) sheet))
+      ap₂
+      (λ (k c : ℕ). headerOf (layoutUnder tagKey) k c (numberOn sheet) (keyCheck (scheduleOf key)) (lengthOn (layoutUnder tagKey) sheet))
       (sym key-length) n
       ∙ ap (headerOf (layoutUnder tagKey) (length key) (length js) (numberOn sheet) (keyCheck (scheduleOf key)))
       (length-on (scheduleOf key) sheet plain exact (layoutUnder tagKey))

@@ -35,7 +35,7 @@ pub record SealedArchive (key tagKey sheet plain file : List ℕ) (n : ℕ) : Ty
   pub long : (i : ℕ) → i < lines sheet → length (plainOn sheet plain i) ≡ sizeOn sheet i
   pub all : row (plainOn sheet plain) (lines sheet) ≡ plain
 
--- any call that meets the contract of sealing and gives n: the first n bytes of the buffer, under the key of the sheet; the rest is as it was
+-- any call that meets the contract of sealing and gives n: the first n bytes of the buffer, under the sheet's key; the rest is as it was
 pub record SealedOpen (keyFile tagKey sheet plain before : List ℕ) (n : ℕ) (after : List ℕ) : Type 0 where
   pub archive : SealedArchive (keyOn keyFile sheet) tagKey sheet plain (take n after) n
   pub rest : drop n after ≡ drop n before

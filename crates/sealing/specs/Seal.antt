@@ -1,6 +1,6 @@
--- Sealing jobs into an archive (02, a): "A new call takes a key file's bytes, a job sheet and the plain bodies end to end, writes an archive
--- at the front of a lent buffer and answers its length. .. The key is the first so many bytes of the key file. .. The buffer's bytes past
--- the archive stay unaltered." With a tag key, of any length but 0, it is an archive of layout 2 (02, d).
+-- Sealing jobs into an archive (02, a): "A new call takes a key file's bytes, a job sheet and the plain bodies end to end, writes an
+-- archive at the front of a lent buffer and answers its length. .. The key is the first so many bytes of the key file. .. The buffer's
+-- bytes past the archive stay unaltered." With a tag key, of any length but 0, it is an archive of layout 2 (02, d).
 -- Assumes nothing.
 use mathlib.Core.Path.{_≡_}
 use mathlib.Core.List.{List, [], _∷_, _++_, map}

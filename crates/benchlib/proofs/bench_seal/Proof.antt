@@ -22,14 +22,16 @@ same-length c = search needs
 
 returns : tie.Need-returns
 returns c =
-    bench-seals _ _ _ _ _ _ _ _ (sym (ap (λ x. refusalIn (sealedAs x)) (c .enum-told .given .1))) (c .before .before .before .before .seal .ensures)
+    let told = sym (ap (λ x. refusalIn (sealedAs x)) (c .enum-told .given .1)) in
+    bench-seals _ _ _ _ _ _ _ _ told (c .before .before .before .before .seal .ensures)
 
 same-length-2 : tie.Need-same-length-2
 same-length-2 c = search needs
 
 returns-2 : tie.Need-returns-2
 returns-2 c =
-    bench-seals _ _ _ _ _ _ _ _ (sym (ap (λ x. refusalIn (sealedAs x)) (c .before .sealed .given .1))) (c .before .before .before .before .before .seal .ensures)
+    let told = sym (ap (λ x. refusalIn (sealedAs x)) (c .before .sealed .given .1)) in
+    bench-seals _ _ _ _ _ _ _ _ told (c .before .before .before .before .before .seal .ensures)
 
 pub bench-seal-spec : {M : Type 1} → statement M
 bench-seal-spec =

@@ -57,12 +57,15 @@ returns c = search needs
 
 -- src/main.rt:74:19
 array-share-prefix-key : tie.Need-array-share-prefix-key
-array-share-prefix-key c = le-trans (c .before .before .before .before .before .before .before .before .key-length .ensures) (c .before .before .before .before .before .before .before .before .before .before .named-input .ensures .within)
+array-share-prefix-key c =
+    let k = c .before .before .before .before .before .before .before .before in
+    le-trans (k .key-length .ensures) (k .before .before .named-input .ensures .within)
 
 -- src/main.rt:74:19
 slice-aggregate-write-archive : tie.Need-slice-aggregate-write-archive
 slice-aggregate-write-archive c =
-    sym (length-take-le _ _ (le-trans (c .before .before .before .before .before .before .before .before .before .key-length .ensures) (c .before .before .before .before .before .before .before .before .before .before .before .named-input .ensures .within)))
+    let k = c .before .before .before .before .before .before .before .before .before in
+    sym (length-take-le _ _ (le-trans (k .key-length .ensures) (k .before .before .named-input .ensures .within)))
 
 -- src/main.rt:74:30
 array-share-prefix-tag-key : tie.Need-array-share-prefix-tag-key

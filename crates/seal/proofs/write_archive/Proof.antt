@@ -30,12 +30,15 @@ enum-known-sealed-2 c = search needs
 
 -- src/main.rt:47:39
 array-share-prefix-archive : tie.Need-array-share-prefix-archive
-array-share-prefix-archive c = seals-fits _ _ _ _ _ _ _ (c .before .before .before .before .seal .ensures) _ (ap sealedAs (c .before .sealed2 .given .1))
+array-share-prefix-archive c =
+    let s = c .before .before .before .before .seal .ensures in
+    seals-fits _ _ _ _ _ _ _ s _ (ap sealedAs (c .before .sealed2 .given .1))
 
 -- src/main.rt:47:39
 slice-aggregate-write-out : tie.Need-slice-aggregate-write-out
 slice-aggregate-write-out c =
-    sym (length-take-le _ _ (seals-fits _ _ _ _ _ _ _ (c .before .before .before .before .before .seal .ensures) _ (ap sealedAs (c .before .before .sealed2 .given .1))))
+    let s = c .before .before .before .before .before .seal .ensures in
+    sym (length-take-le _ _ (seals-fits _ _ _ _ _ _ _ s _ (ap sealedAs (c .before .before .sealed2 .given .1))))
 
 -- src/main.rt:47:29
 write-out-requires : tie.Need-write-out-requires

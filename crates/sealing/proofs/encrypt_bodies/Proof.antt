@@ -10,7 +10,7 @@ use Rattle.blocks.specs.Blocks.{row}
 use Rattle.ctr.specs.Counter.{keystream, addStream}
 use Rattle.ctr.proofs.Applied.{ctr-done}
 use Rattle.opening.specs.Open.{prefixOf, underKeystream}
-use Rattle.sheet.specs.Sheet.{numberOn, lines, jobOn, sizeOn, sizesOn}
+use Rattle.sheet.specs.Sheet.{numberOn, lines, jobOn, sizesOn}
 use Rattle.sheet.proofs.LineLaws.{sizes-next, sizes-within}
 use Rattle.sealing.specs.Internal.{bodyOn, bodiesOn}
 use Rattle.sealing.proofs.Written.{bodies-turn}
@@ -85,23 +85,26 @@ loop-less c = search needs
 loop-again : tie.Need-loop-again Inv-loop μ-loop
 unfolding underKeystream
 loop-again c =
-    let l = c .before .before .before .before .before .before .before .before .loop in
-    let a = c .before .before .before .before .before .before .before .before .before .before .before .before .before .args in
-    let pre = c .before .before .before .before .before .before .before .before .before .before .before .before .before .pre in
-    let n = c .before .before .before .before .before .before .before .before .before .lines .ensures in
-    let more = c .before .before .before .before .before .before .before .loop-test .taken in
-    let size = c .before .before .before .before .before .before .size .ensures in
+    let sized = c .before .before .before .before .before .before in
+    let turn = sized .before .before in
+    let l = turn .loop in
+    let s = turn .before .before .before .before .before in
+    let a = s .args in
+    let pre = s .pre in
+    let n = turn .before .lines .ensures in
+    let more = sized .before .loop-test .taken in
+    let size = sized .size .ensures in
     let sheet : List ℕ = a .sheet .now in
     let plain : List ℕ = a .run .now in
     let i : ℕ = l .i in
     let at : ℕ = l .at in
     let run : List ℕ = l .run in
     let ys : List ℕ = c .before .before .apply .last .1 .1 .1 .0 in
-    let k : ℕ = at + c .before .before .before .before .before .before .size .result - at in
+    let k : ℕ = at + sized .size .result - at in
     let prefix : List ℕ = c .before .before .before .before .prefix .result in
     let named : prefix ≡ prefixOf (numberOn sheet) (jobOn sheet i) =
     c .before .before .before .before .prefix .ensures
-    ∙ ap₂ prefixOf (c .before .before .before .before .before .before .before .before .before .before .archive-number .ensures) (c .before .before .before .before .before .job-number .ensures)
+    ∙ ap₂ prefixOf (turn .before .before .archive-number .ensures) (c .before .before .before .before .before .job-number .ensures)
     in
     let e : ys ≡ underKeystream (a .schedule) (numberOn sheet) (jobOn sheet i) (take k (drop at run)) =
     c .before .before .apply .ensures .bytes

@@ -1,9 +1,7 @@
 -- `sealing::length_refusal` meets its contract: each test of the code is the test of a case, in the order of the list.
 -- Assumes nothing.
-use mathlib.Core.Path.{sym, _∙_}
 use borrow.Author.Tests.{lt-ltb, le-ltb}
 use Rattle.refusals.specs.Cases.{firstOf}
-use Rattle.refusals.proofs.Cases.{skip, stop}
 use Rattle.sealing.specs.Seal.{lengthCases}
 use Rattle.sealing.proofs.length_refusal.Statement.{statement}
 use Rattle.sealing.proofs.length_refusal.Tie as tie

@@ -1,18 +1,39 @@
 -- `sealing::seal` meets its contract: the sheet is asked first, then the key file; its key is never refused.
 -- Assumes nothing.
 use mathlib.Core.Path.{_≡_, sym, ap, subst, _∙_}
-use mathlib.Core.List.{List, []}
+use mathlib.Core.List.{List}
 use Prim.Native.Nat.{ℕ, _≤_}
 use native.Mathlib.Omega.{arith}
 use lib.ListN.{length, take}
-use Rattle.expansion.specs.KeySchedule.{scheduleOf, Prepares}
+use Rattle.refusals.specs.Cases.{firstOf}
+use Rattle.expansion.specs.KeySchedule.{Prepares}
 use Rattle.expansion.proofs.Taken.{rounds-ready}
 use Rattle.sheet.specs.Sheet.{keySizeOn}
+use Rattle.sheet.specs.Cases.{sheetCases}
 use Rattle.sheet.proofs.Cases.{sheet-good}
+use Rattle.sealing.specs.Seal.{keyOn}
 use Rattle.sealing.proofs.Ways.{sheet-refused, key-file-short, key-taken, sealed-under}
 use borrow.Author.Needs.{needs}
 use Rattle.sealing.proofs.seal.Statement.{statement}
 use Rattle.sealing.proofs.seal.Tie as tie
+
+-- where the key was prepared: the sheet has no case, and the key file is long enough for the key that is cut from it
+abbrev Start : tie.After-prepare → Type 0
+Start p = let a = p .before .before .before .before .before .before .before .before .before .before .before .args in
+    (firstOf (sheetCases (a .sheet .now)) ≡ 0) × (keySizeOn (a .sheet .now) ≤ length (a .key-file .now))
+    × Prepares (keyOn (a .key-file .now) (a .sheet .now)) (p .prepare .result)
+
+start : (p : tie.After-prepare) → Start p
+start p =
+    let asked = p .before .before .before .before in
+    let a = p .before .before .before .before .before .before .before .before .before .before .before .args in
+    let size = p .before .before .before .key-size .ensures .0 in
+    let long = p .before .before .if2 .left in
+    let cut = p .before .part .ensures .bytes ∙ ap (λ (n : ℕ). take n (a .key-file .now)) size in (
+      sym (asked .before .refusal .ensures) ∙ asked .if1 .left,
+      omega arith,
+      subst (λ (k : List ℕ). Prepares k (p .prepare .result)) cut (p .prepare .ensures),
+    )
 
 refusal-requires : tie.Need-refusal-requires
 refusal-requires c κs = search needs
@@ -25,7 +46,8 @@ key-size-requires c κs = search needs
 
 returns-2 : tie.Need-returns-2
 returns-2 c =
-    let none = sym (c .before .before .before .refusal .ensures) ∙ c .before .before .if1 .left in
+    let asked = c .before .before in
+    let none = sym (asked .before .refusal .ensures) ∙ asked .if1 .left in
     let size = c .before .key-size .ensures in
     key-file-short _ _ _ _ _ none (omega (arith, c .if2 .taken))
 
@@ -43,32 +65,27 @@ number-of-requires c κs = search needs
 
 returns-3 : tie.Need-returns-3
 returns-3 c =
-    let s = c .before .before .before .before .before .before .before .before .before .before .before .before .before in
-    let none = sym (c .before .before .before .before .before .before .before .refusal .ensures) ∙ c .before .before .before .before .before .before .if1 .left in
-    let size = c .before .before .before .before .before .key-size .ensures in
-    let enough : keySizeOn (s .args .sheet .now) ≤ length (s .args .key-file .now) = omega (arith, c .before .before .before .before .if2 .left) in
-    let cut = c .before .before .before .part .ensures .bytes ∙ ap (λ (n : ℕ). take n (s .args .key-file .now)) (size .0) in
-    let prepared = subst (λ (k : List ℕ). Prepares k (c .before .before .prepare .result)) cut (c .before .before .prepare .ensures) in
-    absurd (key-taken (s .args .key-file .now) [] (s .args .sheet .now) [] [] none enough (c .before .before .prepare .result) prepared (c .before .match .keys2))
+    let p = c .before .before in
+    let a = p .before .before .before .before .before .before .before .before .before .before .before .args in
+    let s = start p in
+    absurd (key-taken (a .key-file .now) (a .sheet .now) (s .0) (s .1) (p .prepare .result) (s .2) (c .before .match .keys2))
 
 seal-under-requires : tie.Need-seal-under-requires
 seal-under-requires c κs =
     let told = c .before in
-    let none = sym (c .before .before .before .before .before .before .before .before .refusal .ensures) ∙ c .before .before .before .before .before .before .before .if1 .left in
-    (rounds-ready _ _ (told .before .before .prepare .ensures) (told .enum-told .given .1), sheet-good _ none .five)
+    let p = told .before .before in
+    (rounds-ready _ _ (p .prepare .ensures) (told .enum-told .given .1), sheet-good _ (start p .0) .five)
 
 same-length : tie.Need-same-length
 same-length c = search needs
 
 returns-4 : tie.Need-returns-4
 returns-4 c =
-    let s = c .before .before .before .before .before .before .before .before .before .before .before .before .before .before .before .before .before in
-    let none = sym (c .before .before .before .before .before .before .before .before .before .before .before .refusal .ensures) ∙ c .before .before .before .before .before .before .before .before .before .before .if1 .left in
-    let size = c .before .before .before .before .before .before .before .before .before .key-size .ensures in
-    let enough : keySizeOn (s .args .sheet .now) ≤ length (s .args .key-file .now) = omega (arith, c .before .before .before .before .before .before .before .before .if2 .left) in
-    let cut = c .before .before .before .before .before .before .before .part .ensures .bytes ∙ ap (λ (n : ℕ). take n (s .args .key-file .now)) (size .0) in
-    sealed-under (s .args .key-file .now) (s .args .tag-key .now) (s .args .sheet .now) (s .args .plain .now) (s .args .out .now) none enough
-    _ _ _ (c .before .before .before .before .before .before .prepare .ensures .schedule ∙ ap scheduleOf cut) (c .before .before .seal-under .ensures)
+    let p = c .before .before .before .before .before .before in
+    let a = p .before .before .before .before .before .before .before .before .before .before .before .args in
+    let s = start p in
+    sealed-under (a .key-file .now) (a .tag-key .now) (a .sheet .now) (a .plain .now) (a .out .now) (s .0) (s .1) _ _ _ (s .2 .schedule)
+    (c .before .before .seal-under .ensures)
 
 pub seal-spec : {M : Type 1} → statement M
 seal-spec =

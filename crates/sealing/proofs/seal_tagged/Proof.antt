@@ -34,17 +34,19 @@ part-tag-under-start c = search needs
 
 part-tag-under-end : tie.Need-part-tag-under-end
 part-tag-under-end c =
-    let s = c .before .before .before .before .before .before .before .before .before .before in
-    let none = sym (c .before .before .before .before .before .before .rest-refusal .ensures) ∙ c .before .before .before .before .before .if1 .left in
+    let f = c .before .before .before in
+    let asked = f .before .before in
+    let s = asked .before .before .before .before .before in
+    let none = sym (asked .before .rest-refusal .ensures) ∙ asked .if1 .left in
     let sheet : List ℕ = s .args .sheet .now in
     let plain : List ℕ = s .args .plain .now in
     let before : List ℕ = s .args .out .now in
     let m = rest-measured 2 sheet plain before (s .pre .2) none in
     let room = rest-room 2 sheet plain before (s .pre .2) none in
     let size = front-size 2 (s .args .schedule) sheet plain m in
-    let w = c .before .before .before .write-front .ensures in
+    let w = f .write-front .ensures in
     let front : List ℕ = frontOn 2 (s .args .schedule) sheet plain in
-    let long = ap length (w .1) ∙ length-append front (drop (c .before .before .before .write-front .result) before) in
+    let long = ap length (w .1) ∙ length-append front (drop (f .write-front .result) before) in
     omega (arith, w .0)
 
 tag-under-requires : tie.Need-tag-under-requires
@@ -61,9 +63,12 @@ same-length c = search needs
 
 returns-2 : tie.Need-returns-2
 returns-2 c =
-    let s = c .before .before .before .before .before .before .before .before .before .before .before .before .before .before .before .before .before .before in
-    let none = sym (c .before .before .before .before .before .before .before .before .before .before .before .before .before .before .rest-refusal .ensures) ∙ c .before .before .before .before .before .before .before .before .before .before .before .before .before .if1 .left in
-    let w = c .before .before .before .before .before .before .before .before .before .before .before .write-front .ensures in
+    let tagged = c .before .before .before .before .before .before in
+    let f = tagged .before .before .before .before .before in
+    let asked = f .before .before in
+    let s = asked .before .before .before .before .before in
+    let none = sym (asked .before .rest-refusal .ensures) ∙ asked .if1 .left in
+    let w = f .write-front .ensures in
     let sheet : List ℕ = s .args .sheet .now in
     let plain : List ℕ = s .args .plain .now in
     let before : List ℕ = s .args .out .now in
@@ -72,10 +77,11 @@ returns-2 c =
     let front : List ℕ = frontOn 2 (s .args .schedule) sheet plain in
     let size = front-size 2 (s .args .schedule) sheet plain m in
     let sixteen = tag-16 2 refl in
-    let end : ℕ = c .before .before .before .before .before .before .before .before .before .before .before .write-front .result in
-    let done = tagged-done (s .args .tag-schedule) front before _ _ end (end - 0) _ (c .before .before .before .before .before .before .tag-under .result) (s .pre .0) (w .0) (omega arith)
-    (w .1) (omega arith) (c .before .before .before .before .before .before .tag-under .ensures) (c .before .before .put .ensures) in
-    rest-done 2 (tagUnder (s .args .tag-schedule)) (s .args .schedule) sheet plain before (s .pre .2) none _ _ (omega (arith, done .0)) (done .1)
+    let end : ℕ = f .write-front .result in
+    let t = s .args .tag-schedule in
+    let done = tagged-done t front before _ _ end (end - 0) _ (tagged .tag-under .result) (s .pre .0) (w .0) (omega arith) (w .1)
+    (omega arith) (tagged .tag-under .ensures) (c .before .before .put .ensures) in
+    rest-done 2 (tagUnder t) (s .args .schedule) sheet plain before (s .pre .2) none _ _ (omega (arith, done .0)) (done .1)
 
 pub seal-tagged-spec : {M : Type 1} → statement M
 seal-tagged-spec =

@@ -1,6 +1,5 @@
 -- `sealing::seal_under` meets its contract: no tag key leaves layout 1; a tag key is prepared, and its refusal taken out first.
 -- Assumes nothing.
-use mathlib.Core.Path.{sym, _∙_}
 use Rattle.expansion.proofs.Taken.{rounds-ready}
 use Rattle.sealing.proofs.Ways.{under-none, under-else, under-ready}
 use borrow.Author.Needs.{needs}
@@ -43,7 +42,8 @@ returns-3 : tie.Need-returns-3
 returns-3 c =
     let told = c .before .before .before .before in
     let p = told .before .before in
-    under-ready _ _ _ _ _ (p .before .if1 .left) _ (p .prepare .ensures) (told .enum-told .given .1) _ _ (c .before .before .seal-tagged .ensures)
+    under-ready _ _ _ _ _ (p .before .if1 .left) _ (p .prepare .ensures) (told .enum-told .given .1) _ _
+    (c .before .before .seal-tagged .ensures)
 
 pub seal-under-spec : {M : Type 1} → statement M
 seal-under-spec =

@@ -1,8 +1,6 @@
 -- `sealing::write_bodies` meets its contract: the plain bytes are copied over as many, and encrypted in place.
 -- Assumes nothing.
-use mathlib.Core.Path.{_≡_, sym, ap, _∙_}
-use mathlib.Core.List.{List}
-use Prim.Native.Nat.{ℕ}
+use mathlib.Core.Path.{sym, ap, _∙_}
 use Rattle.octets.proofs.Parts.{overwritten-whole}
 use Rattle.sealing.specs.Internal.{bodiesOn}
 use borrow.Author.Needs.{needs}

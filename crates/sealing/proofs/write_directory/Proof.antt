@@ -62,13 +62,16 @@ store-requires c κs = search needs
 
 add-start : tie.Need-add-start Inv-loop μ-loop
 add-start c =
-    let l = c .before .before .before .before .before .before .before .before .loop in
-    let a = c .before .before .before .before .before .before .before .before .before .before .before .before .args in
-    let n = c .before .before .before .before .before .before .before .before .before .lines .ensures in
-    let more = c .before .before .before .before .before .before .before .loop-test .taken in
-    let size = c .before .before .before .before .before .before .size .ensures in
+    let sized = c .before .before .before .before .before .before in
+    let turn = sized .before .before in
+    let l = turn .loop in
+    let s = turn .before .before .before .before in
+    let a = s .args in
+    let n = turn .before .lines .ensures in
+    let more = sized .before .loop-test .taken in
+    let size = sized .size .ensures in
     let within = sizes-within (a .sheet .now) (l .i) (omega arith) in
-    omega (arith, c .before .before .before .before .before .before .before .before .before .before .before .before .pre)
+    omega (arith, s .pre)
 
 add-i : tie.Need-add-i Inv-loop μ-loop
 add-i c = search needs
@@ -78,12 +81,15 @@ loop-less c = search needs
 
 loop-again : tie.Need-loop-again Inv-loop μ-loop
 loop-again c =
-    let l = c .before .before .before .before .before .before .before .before .loop in
-    let a = c .before .before .before .before .before .before .before .before .before .before .before .before .args in
-    let n = c .before .before .before .before .before .before .before .before .before .lines .ensures in
-    let more = c .before .before .before .before .before .before .before .loop-test .taken in
-    let size = c .before .before .before .before .before .before .size .ensures in
-    let pre = c .before .before .before .before .before .before .before .before .before .before .before .before .pre in
+    let sized = c .before .before .before .before .before .before in
+    let turn = sized .before .before in
+    let l = turn .loop in
+    let s = turn .before .before .before .before in
+    let a = s .args in
+    let n = turn .before .lines .ensures in
+    let more = sized .before .loop-test .taken in
+    let size = sized .size .ensures in
+    let pre = s .pre in
     let sheet : List ℕ = a .sheet .now in
     let rule : ℕ → List ℕ = entryOn sheet (a .from) in
     let i : ℕ = l .i in
@@ -92,13 +98,14 @@ loop-again c =
     let same = l .inv .2 in
     let k : ℕ = 16 * i + 16 - 16 * i in
     let length-of : length (take k (drop (16 * i) run)) ≡ 16 = simp (length-take, length-drop) (omega arith) in
+    let made-of = c .before .before .before .before .before in
     let made = c .before .before .before .before .entry in
     let sixteen : length (made .result) ≡ 16 = search needs in
     let e : ys ≡ rule i =
     c .before .before .store .ensures
     ∙ overwritten-whole (made .result) (take k (drop (16 * i) run)) (sixteen ∙ sym length-of)
     ∙ made .ensures
-    ∙ ap₂ (λ (d : List ℕ) (m : ℕ). entryOf d m (c .before .before .before .before .before .before .size .result)) (c .before .before .before .before .before .job-number .ensures) (l .inv .1)
+    ∙ ap₂ (λ (d : List ℕ) (m : ℕ). entryOf d m (sized .size .result)) (made-of .job-number .ensures) (l .inv .1)
     ∙ ap (entryOf (jobOn sheet i) (a .from + sizesOn sheet i)) (size .0)
     in
     let left : List ℕ = drop (16 * i) (a .run .now) in

@@ -68,23 +68,27 @@ same-length c = search needs
 
 returns : tie.Need-returns
 returns c =
-    let s = c .before .before .before .before .before .before .before .before .before .before .before .before .before .before .before .before in
+    let bodied = c .before .before in
+    let listed = bodied .before .before .before .before in
+    let headed = listed .before .before .before .before in
+    let counted = headed .before .before in
+    let s = counted .before .before .before .before in
     let sheet : List ℕ = s .args .sheet .now in
     let plain : List ℕ = s .args .plain .now in
     let before : List ℕ = s .args .out .now in
-    let count : ℕ = c .before .before .before .before .before .before .before .before .before .before .before .before .lines .result in
-    let n : count ≡ lines sheet = c .before .before .before .before .before .before .before .before .before .before .before .before .lines .ensures in
+    let count : ℕ = counted .lines .result in
+    let n : count ≡ lines sheet = counted .lines .ensures in
     let from : ℕ = 20 + 16 * count in
     let starts : from ≡ 20 + 16 * lines sheet = omega arith in
-    let h : List ℕ = c .before .before .before .before .before .before .before .before .before .before .write-header .last .1 .1 .1 .0 in
-    let d : List ℕ = c .before .before .before .before .before .before .write-directory .last .1 .1 .0 in
-    let b : List ℕ = c .before .before .write-bodies .last .1 .1 .1 .0 in
+    let h : List ℕ = headed .write-header .last .1 .1 .1 .0 in
+    let d : List ℕ = listed .write-directory .last .1 .1 .0 in
+    let b : List ℕ = bodied .write-bodies .last .1 .1 .1 .0 in
     let out₁ : List ℕ = h ++ drop (20 - 0) before in
     let out₂ : List ℕ = take 20 out₁ ++ (d ++ drop (from - 20) (drop 20 out₁)) in
     let out₃ : List ℕ = take from out₂ ++ (b ++ drop (from + length plain - from) (drop from out₂)) in
     front-written (s .args .layout) (s .args .schedule) sheet plain (s .pre .1) before h d b out₁ out₂ out₃ (20 - 0) (from - 20) from
-    (from + length plain - from) (from + length plain) (c .before .before .before .before .before .before .before .before .before .before .write-header .ensures)
-    (c .before .before .before .before .before .before .write-directory .ensures ∙ ap (directoryOn sheet) starts) (c .before .before .write-bodies .ensures) refl refl refl (omega arith)
+    (from + length plain - from) (from + length plain) (headed .write-header .ensures)
+    (listed .write-directory .ensures ∙ ap (directoryOn sheet) starts) (bodied .write-bodies .ensures) refl refl refl (omega arith)
     (omega arith) starts (omega arith) (omega arith)
 
 pub write-front-spec : {M : Type 1} → statement M

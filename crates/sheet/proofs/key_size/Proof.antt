@@ -1,7 +1,6 @@
 -- `sheet::key_size` meets its contract: its test is the definition's.
 -- Assumes nothing.
 use native.Mathlib.Omega.{arith}
-use mathlib.Core.Path.{sym, ap, _∙_}
 use borrow.Author.Tests.{eq-eqb, ne-eqb}
 use Rattle.sheet.specs.Sheet.{keySizeOf}
 use borrow.Author.Needs.{needs}

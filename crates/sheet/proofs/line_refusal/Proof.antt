@@ -13,7 +13,8 @@ use borrow.Author.Needs.{needs}
 use Rattle.sheet.proofs.line_refusal.Statement.{statement}
 use Rattle.sheet.proofs.line_refusal.Tie as tie
 
-numeric : (c : tie.After-all-digits) → c .all-digits .result ≡ digits (lineAt (c .before .before .before .args .sheet .now) (c .before .before .before .args .i))
+numeric : (c : tie.After-all-digits) → let a = c .before .before .before .args in
+    c .all-digits .result ≡ digits (lineAt (a .sheet .now) (a .i))
 numeric c = c .all-digits .ensures ∙ ap digits (c .before .line .ensures .bytes)
 
 past1 : (c : tie.Else1) → let a = c .before .before .before .before .args in

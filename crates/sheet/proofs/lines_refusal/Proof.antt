@@ -48,7 +48,9 @@ loop-less : tie.Need-loop-less Inv-loop μ-loop
 loop-less c = search needs
 
 loop-again : tie.Need-loop-again Inv-loop μ-loop
-loop-again c = (omega (arith, c .before .before .before .before .before .lines .ensures), below-more _ _ (c .before .before .before .loop .inv .1) (cc))
+loop-again c =
+    let turn = c .before .before .before in
+    (omega (arith, turn .before .before .lines .ensures), below-more _ _ (turn .loop .inv .1) (cc))
 
 returns-3 : tie.Need-returns-3 Inv-loop μ-loop
 returns-3 c =

@@ -2,9 +2,9 @@
 -- Assumes nothing.
 use mathlib.Core.Path.{_≡_, refl, sym, ap, ap₂, _∙_}
 use Prim.Native.Nat.{ℕ, _+_, _*_, _-_, _≤_}
-use native.Mathlib.Numerals.{add-one}
 use native.Mathlib.Omega.{arith}
 use Rattle.sheet.specs.Sheet.{sizesOn}
+use Rattle.sheet.proofs.LineLaws.{sizes-next}
 use borrow.Author.Needs.{needs}
 use Rattle.sheet.proofs.sizes.Statement.{statement}
 use Rattle.sheet.proofs.sizes.Tie as tie
@@ -32,14 +32,13 @@ loop-less : tie.Need-loop-less Inv-loop μ-loop
 loop-less c = search needs
 
 loop-again : tie.Need-loop-again Inv-loop μ-loop
-unfolding sizesOn
 loop-again c =
     let l = c .before .before .loop in
     let more = c .before .loop-test .taken in
     let size = c .size .ensures in (
       omega arith,
       l .inv .1,
-      ap₂ (λ (a b : ℕ). a + b) (l .inv .2) (size .0) ∙ ap (sizesOn (c .before .before .before .before .args .sheet .now)) (sym (add-one (l .i))),
+      ap₂ (λ (a b : ℕ). a + b) (l .inv .2) (size .0) ∙ sym (sizes-next (c .before .before .before .before .args .sheet .now) (l .i)),
       omega (arith, l .inv .3, size .1),
     )
 
