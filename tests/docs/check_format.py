@@ -1,4 +1,4 @@
-"""Sees that docs/FORMAT.md is true: its worked examples, its cipher, its reader, its rule for hexadecimal, its names.
+"""Sees that docs/FORMAT.md is true: its worked examples, its cipher, its reader, its writer, its rule for hexadecimal, its names.
 
     python3 tests/docs/check_format.py [PAGE]
 
@@ -8,9 +8,10 @@ the section "ARIA in short" alone, apart from the model of tests/vectors, reads 
 rotations off the page and follows sentences that must stand there; it must give the published vectors
 and libcrypto's bytes. The reader below is written from the page alone too, and takes the fields and the
 order of the checks from it; it must answer what the model of tests/model answers, on files of both
-layouts, whole and spoiled. Every definition that the page names stands in the file that it gives, needs
-no name that the page does not explain or find in a file above it, and gives the vectors and the tags
-too, computed by definitions.py.
+layouts, whole and spoiled. So must the writer below on sheets, good and bad; what it writes is read again
+by the reader, and what the reader accepts is written again. Every definition that the page names stands in
+the file that it gives, needs no name that the page does not explain or find in a file above it, and gives
+the vectors and the tags too, computed by definitions.py.
 """
 
 import functools
@@ -35,6 +36,8 @@ BYTES = re.compile(r"[0-9a-f]{2}( [0-9a-f]{2})*")
 PLAIN = bytes(range(0x00, 0x100, 0x11))
 KEYS = [bytes(range(n)) for n in (16, 24, 32)]
 SMALL, TAGGED = "A small archive, byte by byte", "The same archive with a tag, byte by byte"
+SHEET, WORKED_SHEET = "The sheet, 5 bytes and 12 a job", "The sheet of both archives, byte by byte"
+WRITER, SEALED = "The checks of a writer", "The archive of a sheet"
 # Words of prose that are written with the letters a to f alone.
 WORDS = {"a", "be", "add", "added", "bad"}
 # Words of a paper that the reader does not have.
@@ -56,7 +59,24 @@ TAGGED_SAYS = [
     "The program `jobs`, with the tag key in `tag.bin`, prints of this archive the same three lines as of the one above; without it, `refused 24`.",
     "Under another tag key it prints `refused 25`.",
 ]
-# Sentences of rules that the cipher or the reader below follows without reading them off the page: they must stand there as they are.
+# Sentences on writing whose truth is tried below.
+WRITING_SAYS = [
+    "the first byte tells them apart, `01` or `02` for an archive and `72` for the line.",
+    "What follows them in the file is not looked at.",
+    "A reader takes `key.bin` whole, so for reading a longer one has to be cut down to the key.",
+    "The archive number and the job number, under one key, must never be given to two different bodies;",
+    "No check here can notice it.",
+    "To seal the same plain bytes again under the same numbers is harmless, and gives the same body.",
+    "A sheet of 5 bytes has none, and makes an archive of no jobs.",
+    "A sheet that is missing counts as one of no bytes, and a key file that is missing or cannot be read likewise: 21, and 1.",
+    "So the same key, tag key, sheet and plain bytes always make the same archive.",
+    "And a file that a reader accepts is what a writer makes, under the same keys, of its own jobs:",
+    "of the sheet with its key length, its archive number and, entry by entry, job number and length,",
+    "and of the plain bytes that its jobs open to.",
+    "Each column, from top to bottom, is one of the two archives worked above, and a sheet with `00` for its first byte makes both too.",
+]
+# Sentences of rules that the cipher, the reader or the writer below follows without reading them off the page: they must stand there as
+# they are.
 FOLLOWED = [
     "A number of several bytes has its most significant byte first and has no sign.",
     "A digit is one of the ten bytes `30` to `39`, the digits 0 to 9 of ASCII.",
@@ -84,6 +104,15 @@ FOLLOWED = [
     "shorter than the range;",
     "The plain bytes of any other are bytes first to first + count - 1 of the job's plain bytes;",
     "only E(counter block n) for n from first div 16 to (first + count - 1) div 16.",
+    "The key is the first bytes of the key file, as many as the sheet says.",
+    "The tag key is taken as for reading.",
+    "The line of job i, counted from 0, begins at position 5 + 12 × i.",
+    "How many lines there are is told by the sheet's length alone: (length - 5) div 12.",
+    "Sums are of whole numbers and never wrap. A refusal changes no byte of the buffer.",
+    "The plain bytes are cut from the front into pieces as long as the lines say,",
+    "and each piece ⊕ the keystream of its job, by the archive number and the job number, is the job's body.",
+    "Then in layout 2 the tag, under the tag key, of all bytes so far. Nothing follows.",
+    "The archive stands at the front of the buffer, and the bytes past it stay as they were.",
     "The bits of a byte are numbered 0 to 7, and bit 0 is worth 1.",
     "The inverse of x is the byte whose product with x is `01`; the inverse of `00` is `00`.",
     "S3(S1(x)) = x and S4(S2(x)) = x for every byte x.",
@@ -188,6 +217,9 @@ def faults_of_refusals(page):
     numbers = [int(row[0]) for row in page.section("Reading").table("number", "refused because")]
     if numbers != [1, 1, 5, 6, 7, 24, *range(8, 18), 25, 18, 19, 26, 20]:
         yield "the refusals are not 1 for each key, 5 to 7, 24, 8 to 17, 25, 18, 19, 26 and 20 in order"
+    numbers = [int(row[0]) for row in page.section(WRITER).table("number", "refused because")]
+    if numbers != [21, 22, 1, 1, 9, 13, 14, 6, 16, 17, 20]:
+        yield "the refusals of a writer are not 21, 22, 1 for each key, 9, 13, 14, 6, 16, 17 and 20 in order"
 
 
 def faults_of_layout(page):
@@ -196,6 +228,8 @@ def faults_of_layout(page):
         ("Header, %d bytes" % archive.PLATE, "position", archive.PLATE),
         ("Directory, %d bytes a job" % archive.ENTRY, "position in the entry", archive.ENTRY),
         ("Bodies", "position in the block", 16),
+        ("The sheet, %d bytes and %d a job" % (archive.SHEET, archive.LINE), "position", archive.SHEET),
+        (SHEET, "position in the line", archive.LINE),
     )
     for title, place, size in parts:
         at = 0
@@ -206,14 +240,28 @@ def faults_of_layout(page):
         if at != size:
             yield "%s: the fields have %d bytes" % (title, at)
     page.section("Tag, %d bytes, layout 2 only" % archive.TAG)
-    said = dict(page.section("Reading").table("number", "refused because"))
     room = "%d + %d × count exceeds the file's length in layout 1, or %d + %d × count does in layout 2"
-    limits = {
-        "5": "the file is shorter than %d bytes" % archive.PLATE,
-        "6": "the file is longer than {:,} bytes".format(archive.LONGEST_FILE),
-        "9": "the count exceeds %d" % archive.MOST_JOBS,
-        "11": room % (archive.PLATE, archive.ENTRY, archive.PLATE + archive.TAG, archive.ENTRY),
-    }
+    yield from faults_of_limits(
+        page.section("Reading"),
+        {
+            "5": "the file is shorter than %d bytes" % archive.PLATE,
+            "6": "the file is longer than {:,} bytes".format(archive.LONGEST_FILE),
+            "9": "the count exceeds %d" % archive.MOST_JOBS,
+            "11": room % (archive.PLATE, archive.ENTRY, archive.PLATE + archive.TAG, archive.ENTRY),
+        },
+    )
+    yield from faults_of_limits(
+        page.section(WRITER),
+        {
+            "21": "the sheet's length is not %d plus a multiple of %d" % (archive.SHEET, archive.LINE),
+            "9": "there are more than %d lines" % archive.MOST_JOBS,
+            "6": "the length of the whole file, the tag included, exceeds {:,}".format(archive.LONGEST_FILE),
+        },
+    )
+
+
+def faults_of_limits(page, limits):
+    said = dict(page.table("number", "refused because"))
     for number, reason in limits.items():
         if said[number] != reason:
             yield "refusal %s should say: %s" % (number, reason)
@@ -229,6 +277,7 @@ def faults_of_samples(page):
     key, _, file = sample("tagged")
     if (key, b"", without_tag(file)) != sample("sample"):
         yield "the tagged sample without its tag is not the sample"
+    yield from faults_of_sheet(page.section(WORKED_SHEET))
 
 
 def without_tag(file):
@@ -244,9 +293,47 @@ def sample(folder):
     return read(place + "key.bin", "rb"), tag_key, read(place + "archive.bin", "rb")
 
 
+def to_seal(folder):
+    """What a sample is made of beside its keys: its sheet and its plain bytes."""
+    return read("examples/%s/sheet.bin" % folder, "rb"), read("examples/%s/plain.bin" % folder, "rb")
+
+
 def faults_of_sample(page, folder):
-    """The rows are the sample's bytes, one after the other, and say the numbers that these are."""
-    (key, tag_key, file), at = sample(folder), 0
+    key, tag_key, file = sample(folder)
+    yield from faults_of_rows(page, "examples/%s/archive.bin" % folder, file)
+    if (tag_key or key).hex(" ") not in page.spans:
+        yield "the key that examples/%s brings is not on the page" % folder
+
+
+def faults_of_sheet(page):
+    """The worked sheet is both samples', and what the page writes of it, column by column, is their archives."""
+    sheet, plain = to_seal("sample")
+    yield from faults_of_rows(page, "examples/sample/sheet.bin", sheet)
+    if to_seal("tagged") != (sheet, plain):
+        yield "the tagged sample's sheet and plain bytes are not the sample's"
+    said = "The plain bytes are those of job 24000017 alone, the text `%s`," % plain.decode()
+    if said not in page.text:
+        yield "it does not say: %s" % said
+    *rows, (label, none, tag) = page.table("written of it", "without a tag key", "under the tag key")
+    columns = [b"".join(octets(row[at]) for row in rows) for at in (1, 2)]
+    if (label, none) != ("tag", "none") or [columns[0], columns[1] + octets(tag)] != [sample(name)[2] for name in ("sample", "tagged")]:
+        yield "what is written of the sheet is not the samples' archives"
+    lengths = [int.from_bytes(sheet[at + 8 : at + 12], "big") for at in range(5, len(sheet), 12)]
+    front = 20 + 16 * len(lengths)
+    for said in (
+        "The lengths on the lines are %d in all, and there are %d plain bytes." % (sum(lengths), len(plain)),
+        "The whole file is %d = 20 + 16 × %d + %d bytes long" % (front + sum(lengths), len(lengths), sum(lengths)),
+        "without a tag key, and %d = %d + 16 with one." % (front + sum(lengths) + 16, front + sum(lengths)),
+        "Entry 0 starts at %d = 20 + 16 × %d, entry 1 at %d = %d + %d." % (front, len(lengths), front + lengths[0], front, lengths[0]),
+        "the sheet ends here, at %d = 5 + 12 × %d" % (len(sheet), len(lengths)),
+    ):
+        if said not in page.text:
+            yield "it does not say: %s" % said
+
+
+def faults_of_rows(page, path, file):
+    """The rows are the file's bytes, one after the other, and say the numbers that these are."""
+    at = 0
     for place, cell, meaning in page.table("position", "bytes", "meaning"):
         data = octets(cell)
         last = at + len(data) - 1
@@ -259,10 +346,8 @@ def faults_of_sample(page, folder):
             if not re.search(r"(?<!\d)%s(?!\d)" % said, meaning):
                 yield "position %s: the bytes are %s, the page says: %s" % (place, said, meaning)
         at = last + 1
-    if at != len(file) or "`examples/%s/archive.bin`, %d bytes" % (folder, at) not in page.text:
-        yield "examples/%s has %d bytes, the page works %d" % (folder, len(file), at)
-    if (tag_key or key).hex(" ") not in page.spans:
-        yield "the key that examples/%s brings is not on the page" % folder
+    if at != len(file) or "`%s`, %d bytes" % (path, at) not in page.text:
+        yield "%s has %d bytes, the page works %d" % (path, len(file), at)
 
 
 def faults_of_example(page):
@@ -593,7 +678,32 @@ def fields(page, place):
     return {re.split("[:;,]", meaning)[0]: (int(at), int(size)) for at, size, meaning in rows}
 
 
-class Reading:
+def counter_block(reader, archive_number, job_number, n):
+    """Counter block n of a job, by the page's fields."""
+    parts = {"archive number": archive_number, "job number": job_number, "n": n.to_bytes(4, "big")}
+    block = bytearray(16)
+    for name, (at, size) in reader.block.items():
+        block[at : at + size] = parts[name]
+    return bytes(block)
+
+
+class Checked:
+    """What a list of checks of the page is about: a file that is read, or a sheet that is sealed."""
+
+    def applies(self, rows):
+        return next((int(number) for number, reason in rows if CHECKS[reason](self)), 0)
+
+    def refusal_by(self, rules):
+        """The number of the first check that applies, 0 where none does: the first ones, those job by job, the last ones."""
+        refused = self.applies(rules.first)
+        self.index = 0
+        while not refused and self.index < self.jobs():
+            refused = self.applies(rules.by_entry)
+            self.index += 1
+        return refused or self.applies(rules.then)
+
+
+class Reading(Checked):
     """A file as it is read under a key and a tag key, and what is asked of it."""
 
     def __init__(self, reader, key, tag_key, file, asked=b"", first=0, count=0, room=0):
@@ -632,17 +742,9 @@ class Reading:
     def found(self):
         return [index for index in range(self.jobs()) if self.entry(index, "job number") == self.asked]
 
-    def applies(self, rows):
-        return next((int(number) for number, reason in rows if CHECKS[reason](self)), 0)
-
     def refusal(self):
         """The number of the first check that applies, 0 where the file is accepted."""
-        refused = self.applies(self.reader.first)
-        self.index = 0
-        while not refused and self.index < self.jobs():
-            refused = self.applies(self.reader.by_entry)
-            self.index += 1
-        return refused or self.applies(self.reader.then)
+        return self.refusal_by(self.reader)
 
     def opened(self):
         """The number of the first check that applies, or 0; and the plain bytes of the range."""
@@ -653,11 +755,7 @@ class Reading:
         return 0, bytes(self.file[start + j] ^ self.stream(j) for j in range(self.first, self.first + self.count))
 
     def stream(self, j):
-        parts = {"archive number": self.header("archive number"), "job number": self.asked, "n": (j // 16).to_bytes(4, "big")}
-        block = bytearray(16)
-        for name, (at, size) in self.reader.block.items():
-            block[at : at + size] = parts[name]
-        return self.reader.encrypt(self.key, bytes(block))[j % 16]
+        return self.reader.encrypt(self.key, counter_block(self.reader, self.header("archive number"), self.asked, j // 16))[j % 16]
 
     def listing(self):
         """What `jobs` prints."""
@@ -679,7 +777,7 @@ def in_years(number):
     return (1900 if year >= 70 else 2000) + year, int(number[2:])
 
 
-# The reader's way to each check, by the words that must stand on the page; its number and its place are the page's.
+# The reader's and the writer's way to each check, by the words that must stand on the page; its number and its place are the page's.
 CHECKS = {
     "the key is not 16, 24 or 32 bytes long": lambda a: len(a.key) not in (16, 24, 32),
     "a tag key is given, and is not 16, 24 or 32 bytes long": lambda a: a.tag_key and len(a.tag_key) not in (16, 24, 32),
@@ -721,6 +819,21 @@ CHECKS = {
     ),
     "the buffer for the plain bytes is shorter than the range; a reader that makes the buffer itself never meets this": (
         lambda a: a.room < a.count
+    ),
+    "the sheet's length is not 5 plus a multiple of 12": lambda a: len(a.sheet) < 5 or (len(a.sheet) - 5) % 12 != 0,
+    "the sheet's first byte is none of 0, 16, 24 and 32": lambda a: a.sheet[0] not in (0, 16, 24, 32),
+    "the key file is shorter than the length of the key": lambda a: len(a.key_file) < a.key_length(),
+    "there are more than 64 lines": lambda a: a.jobs() > 64,
+    "the job number is not above that of the line before it in the order of years; "
+    "line 0 has no line before it, and no check 14": (
+        lambda a: a.index > 0
+        and in_years(a.entry(a.index, "job number")) <= in_years(a.entry(a.index - 1, "job number"))
+    ),
+    "the length of the whole file, the tag included, exceeds 65,536": lambda a: a.whole() > 65536,
+    "the plain bytes are fewer than the lengths on the lines in all": lambda a: len(a.plain) < sum(a.lengths()),
+    "the plain bytes are more than that": lambda a: len(a.plain) > sum(a.lengths()),
+    "the buffer for the archive is shorter than the whole file; a writer that makes the buffer itself never meets this": (
+        lambda a: len(a.buffer) < a.whole()
     ),
 }
 
@@ -856,6 +969,245 @@ def faults_of_tagged(page, reader):
             yield "it does not say: %s" % sentence
 
 
+# ---- the writer, from the page alone
+
+
+class Writer:
+    """What the page says of writing: the sheet's fields, the checks in their order, and what is written in each field."""
+
+    def __init__(self, page, encrypt):
+        self.reader = Reader(page, encrypt)
+        self.front = fields(page.section(SHEET), "position")
+        self.line = fields(page.section(SHEET), "position in the line")
+        turns = "^Then for each line in turn, both of its checks before the next line:$|^Then:$"
+        parts = re.split(turns, page.section(WRITER).text, flags=re.M)
+        self.first, self.by_entry, self.then = [Page(part).table("number", "refused because") for part in parts]
+        parts = page.section(SEALED).text.split("Then an entry for each line, in the same order:")
+        self.header, self.entry = [Page(part).table("field", "what is written") for part in parts]
+        if [[name for name, _ in rows] for rows in (self.header, self.entry)] != [list(self.reader.header), list(self.reader.entry)]:
+            raise ValueError("what is written is not every field, in order")
+
+
+class Sealing(Checked):
+    """A sheet and plain bytes as they are sealed under a key file and a tag key into a buffer."""
+
+    def __init__(self, writer, key_file, tag_key, sheet, plain, buffer=bytes(65536)):
+        self.writer, self.key_file, self.tag_key, self.sheet = writer, key_file, tag_key, sheet
+        self.plain, self.buffer = plain, buffer
+
+    def field(self, name):
+        at, size = self.writer.front[name]
+        return self.sheet[at : at + size]
+
+    def key_length(self):
+        return self.field("length of the key in bytes")[0] or 16
+
+    def jobs(self):
+        return (len(self.sheet) - 5) // 12
+
+    def entry(self, index, name):
+        at, size = self.writer.line[name]
+        return self.sheet[5 + 12 * index + at :][:size]
+
+    def lengths(self):
+        return [int.from_bytes(self.entry(index, "length of the body in bytes"), "big") for index in range(self.jobs())]
+
+    def whole(self):
+        return 20 + 16 * self.jobs() + sum(self.lengths()) + (16 if self.tag_key else 0)
+
+    def start(self):
+        """Where the body of the line that is at hand starts."""
+        return 20 + 16 * self.jobs() + sum(self.lengths()[: self.index])
+
+    def fields(self, rows, places):
+        """The fields that the rows say, each at its place."""
+        out = bytearray(sum(size for _, size in places.values()))
+        for name, words in rows:
+            at, size = places[name]
+            value = WRITTEN[words](self, name)
+            out[at : at + size] = value if isinstance(value, bytes) else value.to_bytes(size, "big")
+        return bytes(out)
+
+    def body(self, piece):
+        """The body of the line that is at hand."""
+        encrypt, job = self.writer.reader.encrypt, (self.field("archive number"), self.entry(self.index, "job number"))
+        blocks = (len(piece) + 15) // 16
+        return xor(piece, b"".join(encrypt(self.key(), counter_block(self.writer.reader, *job, n)) for n in range(blocks)))
+
+    def key(self):
+        return self.key_file[: self.key_length()]
+
+    def archive(self):
+        directory = bodies = b""
+        for self.index, length in enumerate(self.lengths()):
+            directory += self.fields(self.writer.entry, self.writer.reader.entry)
+            bodies += self.body(self.plain[len(bodies) : len(bodies) + length])
+        front = self.fields(self.writer.header, self.writer.reader.header) + directory + bodies
+        if not self.tag_key:
+            return front
+        return front + tag_of(functools.partial(self.writer.reader.encrypt, self.tag_key), front, self.writer.reader.constant)
+
+    def sealed(self):
+        """The number of the first check that applies, or 0; and what stands in the buffer then."""
+        refused = self.refusal_by(self.writer)
+        if refused:
+            return refused, self.buffer
+        file = self.archive()
+        return 0, file + self.buffer[len(file) :]
+
+
+# The writer's way to what is written in a field, by the words that must stand on the page.
+WRITTEN = {
+    "2 where a tag key is given, 1 where none is": lambda a, name: 2 if a.tag_key else 1,
+    "16 where the sheet has 0, else as on the sheet; so never 0": lambda a, name: a.key_length(),
+    "how many lines the sheet has": lambda a, name: a.jobs(),
+    "as on the sheet": lambda a, name: a.field(name),
+    "the first eight bytes of E(sixteen bytes `ff`)": lambda a, name: a.writer.reader.encrypt(a.key(), b"\xff" * 16)[:8],
+    "20 + 16 × count + the lengths on the lines in all, + 16 in layout 2": lambda a, name: a.whole(),
+    "as on the line": lambda a, name: a.entry(a.index, name),
+    "20 + 16 × count for line 0; for any other the start and the length of the entry before it, added": lambda a, name: a.start(),
+}
+
+
+def sheet_of(first, jobs, number=7):
+    """A sheet of job numbers with lengths."""
+    return bytes([first]) + number.to_bytes(4, "big") + b"".join(digits + length.to_bytes(4, "big") for digits, length in jobs)
+
+
+def sheets():
+    """Key files, tag keys, sheets, plain bytes and lengths of buffers: good ones, and each check on both sides of its limit."""
+    key_file, tag_keys = bytes(range(40)), [bytes(range(0x10, 0x10 + n)) for n in (0, 16, 24, 32)]
+    jobs, plain, many, room = [(b"24000017", 5), (b"24000018", 0)], b"dried", bytes(range(256)) * 260, 65536
+    good = sheet_of(16, jobs)
+    for given in (*tag_keys, b"\0", bytes(15), bytes(33)):
+        for first in range(256):
+            yield key_file, given, sheet_of(first, jobs), plain, room
+        for first in (0, 15, 16, 24, 32):
+            yield from ((key_file[:n], given, sheet_of(first, jobs), plain, room) for n in (0, 15, 16, 17, 23, 24, 31, 32, 33, 40))
+    for given in tag_keys:
+        for size in (*range(32), *range(771, 800)):
+            yield key_file, given, sheet_of(32, [(b"%08d" % n, 0) for n in range(70)])[:size], b"", room
+        for lines in ([], [(b"97000004", 20), (b"05000001", 33)], [(b"05000001", 20), (b"97000004", 33)], [(b"24000017", 0)] * 2):
+            yield key_file, given, sheet_of(24, lines, 0xFEDCBA98), many[: sum(size for _, size in lines)], room
+        for count in (64, 65):
+            yield key_file, given, sheet_of(0, [(b"%08d" % n, n) for n in range(count)]), many[: count * (count - 1) // 2], room
+        longest = 65536 - 36 - (16 if given else 0)
+        for size in (longest, longest + 1, 2**32 - 1):
+            yield from ((key_file, given, sheet_of(16, [(b"24000017", size)]), many[:have], room) for have in (longest, longest + 1))
+        # lengths that come to 5 in 32 bits
+        yield key_file, given, sheet_of(16, [(b"24000017", 2**32 - 1), (b"24000018", 6)]), plain, room
+        yield from ((key_file, given, good, (plain + plain)[:n], 99) for n in range(11))
+        yield from ((key_file, given, good, plain, n) for n in (0, 1, 19, 52, *range(55, 76)))
+        for at, byte in enumerate(good):
+            for value in {0, 1, 16, 0x2F, 0x30, 0x39, 0x3A, 0xFF, byte ^ 1} - {byte}:
+                yield key_file, given, good[:at] + bytes([value]) + good[at + 1 :], plain, room
+    source = random.Random(1)
+    for _ in range(3000):
+        given = source.choice((*tag_keys, b"", b"\0"))
+        numbers = [b"%08d" % source.choice((source.randrange(10**8), 24000017, 70000000, 69999999)) for _ in range(source.randrange(4))]
+        lines = [(digits, source.randrange(40)) for digits in (sorted(set(numbers), key=in_years) if source.randrange(3) else numbers)]
+        sheet = bytearray(sheet_of(source.choice((0, 16, 24, 32)), lines, source.randrange(2**32)))
+        for at in source.sample(range(len(sheet)), source.choice((0, 0, 0, 1))):
+            sheet[at] = source.choice((0, 16, 0x30, 0x3A, source.randrange(256)))
+        sheet = bytes(sheet) + bytes(source.choice((0, 0, 0, 0, 1, 12)))
+        have = sum(length for _, length in lines) + source.choice((0, 0, 0, 0, 1, -1))
+        whole = 20 + 16 * len(lines) + have + (16 if given else 0) + source.choice((0, 0, 1, -1))
+        yield source.randbytes(source.choice((16, 24, 32, 32, 32, 40))), given, sheet, source.randbytes(max(have, 0)), max(whole, 0)
+
+
+def faults_of_sealing(page):
+    """The page's writer answers and writes what the model does, and what the page says that it does."""
+    writer, met = Writer(page, libcrypto.forward), set()
+    for key_file, tag_key, sheet, plain, room in sheets():
+        buffer = b"\xa5" * room
+        given = Sealing(writer, key_file, tag_key, sheet, plain, buffer).sealed()
+        wanted = archive.sealed_into(key_file, tag_key, sheet, plain, buffer)
+        met.add(wanted[0])
+        if given != wanted:
+            what = [part.hex() for part in (key_file, tag_key, sheet[:80], plain[:80])]
+            yield "by the page %d, by the model %d, or other bytes: %s, a buffer of %d" % (given[0], wanted[0], what, room)
+            return
+        if not wanted[0] and len(plain) < 3000:
+            yield from faults_of_sealed(writer, key_file, tag_key, sheet, plain, buffer, given[1])
+    if met != {0, 1, 6, 9, 13, 14, 16, 17, 20, 21, 22}:
+        yield "the sheets meet only the refusals %s" % sorted(met)
+    yield from faults_of_resealing(writer)
+    yield from faults_of_sealed_samples(page, writer)
+
+
+def faults_of_sealed(writer, key_file, tag_key, sheet, plain, buffer, after):
+    """What was written is accepted under the key as it was cut, and opens to the plain bytes; the buffer has its other bytes."""
+    length = int.from_bytes(after[16:20], "big")
+    file, key = after[:length], key_file[: sheet[0] or 16]
+    if Reading(writer.reader, key, tag_key, file).refusal() or after[length:] != buffer[length:] or file[1] != len(key):
+        yield "what is written of the sheet %s is not read again" % sheet.hex()
+    elif (own_sheet(writer.reader, key, tag_key, file), opened_whole(writer.reader, key, tag_key, file)) != (
+        bytes([len(key)]) + sheet[1:],
+        plain,
+    ):
+        yield "what is written of the sheet %s does not list or open again" % sheet.hex()
+
+
+def own_sheet(reader, key, tag_key, file):
+    """The sheet of an accepted file's own jobs."""
+    reading = Reading(reader, key, tag_key, file)
+    names = "job number", "length of the body in bytes"
+    lines = [reading.entry(index, name) for index in range(reading.jobs()) for name in names]
+    return reading.header("length of the key in bytes") + reading.header("archive number") + b"".join(lines)
+
+
+def opened_whole(reader, key, tag_key, file):
+    """The plain bytes of an accepted file's jobs, end to end."""
+    reading, plain = Reading(reader, key, tag_key, file), b""
+    for index in range(reading.jobs()):
+        start, length = reading.body(index)
+        reading.asked = reading.entry(index, "job number")
+        plain += bytes(file[start + j] ^ reading.stream(j) for j in range(length))
+    return plain
+
+
+def faults_of_resealing(writer):
+    """What the page's reader accepts comes out again, byte for byte."""
+    again = 0
+    for key, tag_key, file in trials():
+        if len(file) < 4096 and not Reading(writer.reader, key, tag_key, file).refusal():
+            sheet, plain = (made(writer.reader, key, tag_key, file) for made in (own_sheet, opened_whole))
+            again += 1
+            if Sealing(writer, key + b"and more", tag_key, sheet, plain).sealed() != (0, file + bytes(65536 - len(file))):
+                yield "an accepted archive does not come out again: %s" % file[:80].hex()
+    if again < 100:
+        yield "only %d archives were sealed again" % again
+
+
+def faults_of_sealed_samples(page, writer):
+    """Both samples come out of their own sheets by the page's own steps and its cipher, and what the page says of writing is so."""
+    by_page = Writer(page, Aria(page).encrypted)
+    for folder in ("sample", "tagged"):
+        (key, tag_key, file), (sheet, plain) = sample(folder), to_seal(folder)
+        for first in (sheet, b"\0" + sheet[1:]):
+            for key_file in (key, key + b"\n", key + key):
+                if Sealing(by_page, key_file, tag_key, first, plain, b"").sealed() != (20, b""):
+                    yield "a buffer of no bytes is not refused"
+                if Sealing(by_page, key_file, tag_key, first, plain, bytes(len(file))).sealed() != (0, file):
+                    yield "by the page's steps examples/%s does not come out of its sheet" % folder
+        firsts = [archive.seal_output(key, tag_key, given, plain)[0][0] for given in (sheet, b"")]
+        if firsts != [2 if tag_key else 1, 0x72]:
+            yield "the first byte does not tell an archive from a refusal"
+        if [Reading(writer.reader, longer, tag_key, file).refusal() for longer in (key + b"\n", key + key)] != [1, 8]:
+            yield "a longer key file is taken for reading"
+        other = Sealing(writer, key, tag_key, sheet, b"moist", bytes(len(file))).sealed()
+        if other[0] or xor(other[1][52:57], file[52:57]) != xor(b"moist", plain):
+            yield "two bodies under the same numbers do not betray each other"
+        if [Sealing(writer, b"", tag_key, given, b"", b"").sealed()[0] for given in (b"", sheet)] != [21, 1]:
+            yield "a missing sheet is not 21, or a missing key file not 1"
+        none = Sealing(writer, key, tag_key, sheet[:5], b"").archive()
+        if Reading(writer.reader, key, tag_key, none).listing() != "jobs 0\n":
+            yield "a sheet of 5 bytes makes no archive of no jobs"
+    for sentence in WRITING_SAYS:
+        if sentence not in page.text:
+            yield "it does not say: %s" % sentence
+
+
 # ---- the project's definitions
 
 
@@ -948,6 +1300,7 @@ def main():
         faults_of_aria,
         faults_of_tags,
         faults_of_reading,
+        faults_of_sealing,
         faults_of_definitions,
         faults_of_computing,
         faults_of_paths,
@@ -967,7 +1320,7 @@ def main():
         "the examples are the samples' and libcrypto's",
         "ARIA in short gives the RFC's vectors and the rule of CMAC libcrypto's tags",
         "so do the definitions",
-        "a reader by the page answers as the model",
+        "a reader and a writer by the page answer as the model",
         "%d spans of bytes keep the rule" % spans,
         "the commands were run" if runs_commands() else "the commands were not run, for want of openssl or xxd",
     ]

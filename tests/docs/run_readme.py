@@ -4,7 +4,8 @@
 
 Every block of README.md set as `sh`, `rust` or `toml` is run or used, in a folder of its own where it is not for the top folder, and a
 block set as `text` is what the command before it has to end in. A block that no check here knows is a fault, so that no block of commands
-goes untried. The commands must leave nothing new in the top folder. The table of refusals has them all, in order.
+goes untried. The commands must leave nothing new in the top folder. The tables of refusals, of reading and of writing, have them all, in
+order.
 """
 
 import errno
@@ -75,6 +76,32 @@ def beside_programs(scratch):
     return folder
 
 
+def made_faults(scratch):
+    """A library that stands before the C library and fails as it is told."""
+    faults = os.path.join(scratch, "faults.so")
+    run("cc -shared -fPIC %s -o %s -ldl" % (shlex.quote(FAULTS), shlex.quote(faults)), scratch)
+    return faults
+
+
+def sealing_recipe(command, scratch):
+    """Keeps an archive, and nothing that is none: what is refused, what could not be read or written, what was broken off."""
+    folder, call = os.path.join(TOP, "target", "trial"), "| ../bin/seal "
+    kept = read(os.path.join(folder, "archive.bin"), "rb")
+    full = "| LD_PRELOAD=%s FAULT='write 1 30 %d 1' ../bin/seal " % (shlex.quote(made_faults(scratch)), errno.ENOSPC)
+    for old, new, said in (
+        ("in 26000001 26000002", "in 26000002 26000001", "refused 14\n"),
+        ("cat 26000001.bin 26000002.bin", "cat 26000001.bin", "refused 16\n"),
+        (call, "| ../bin/seal < . ", "not sealed: seal: could not read\n"),
+        (call, full, "not sealed: seal: could not write\n"),
+        (call, "| sh -c 'printf \\002; kill -9 $$' ", "not sealed: ended badly: \n"),
+    ):
+        if command.count(old) != 1:
+            sys.exit("README.md: the recipe of `seal` is not as this check knows it: %s" % old)
+        done = run(command.replace(old, new), TOP, status=1)
+        expect("the recipe of `seal`, with %s" % new, done.stderr.splitlines(True)[-1], said)
+        expect("what it leaves then", (os.path.exists(os.path.join(folder, "new.bin")), read(os.path.join(folder, "archive.bin"), "rb")), (False, kept))
+
+
 def listing_recipe(command, scratch):
     """Goes on with a listing, and ends a script where there is none."""
     folder = beside_programs(scratch)
@@ -90,7 +117,7 @@ def listing_recipe(command, scratch):
 def opening_recipe(command, scratch):
     """Goes on with the plain bytes, also where there are none, and ends a script, without a plain file, on anything else."""
     folder = beside_programs(scratch)
-    plain = os.path.join(folder, "plain.bin")
+    plain = os.path.join(folder, "job.bin")
     run(command, folder)
     expect("the plain bytes of the recipe", read(plain, "rb"), b"dried")
     run(command.replace("24000017", "24000018"), folder)
@@ -100,8 +127,7 @@ def opening_recipe(command, scratch):
     done = run(command.replace("< archive.bin", "< .") + "echo went on", folder, status=1)
     expect("the recipe on a read error", (done.stdout, done.stderr, os.path.exists(plain)), ("", "open: could not read\n", False))
     # the disk is full after two bytes: then no other file would hold what was said
-    faults = os.path.join(scratch, "faults.so")
-    run("cc -shared -fPIC %s -o %s -ldl" % (shlex.quote(FAULTS), shlex.quote(faults)), scratch)
+    faults = made_faults(scratch)
     done = run(command + "echo went on", folder, status=1, LD_PRELOAD=faults, FAULT="write 1 2 %d 1" % errno.ENOSPC)
     expect("the recipe on a full disk", (done.stdout, done.stderr, os.path.exists(plain)), ("", "open: could not write\n", False))
     expect("what the recipe leaves", sorted(os.listdir(folder)), ["archive.bin", "key.bin"])
@@ -122,9 +148,11 @@ def rust_program(source, dependency, printed, scratch):
 
 
 def refusals(text):
-    """The table of refusals has every number that a call here answers, in the order in which they apply."""
+    """The tables of refusals have every number that a call here answers, in the order in which they apply."""
     rows = re.findall(r"^\| (\d+)(?: \*)? \| .+ \| .+ \|$", text, re.M)
     expect("the numbers of refusals, in order", [int(row) for row in rows], [1, 2, 3, 4, 23, 5, 6, 7, 24, *range(8, 18), 25, 18, 19, 26, 20])
+    rows = re.findall(r"^\| [^|]*\| (\d+)(?: \*)? \| .+ \| .+ \|$", text, re.M)
+    expect("the numbers of refusals of `seal`, in order", [int(row) for row in rows], [21, 22, 1, 1, 9, 13, 14, 6, 16, 17, 20])
 
 
 def main():
@@ -141,6 +169,8 @@ def main():
         with tempfile.TemporaryDirectory(prefix="readme-") as scratch:
             if kind == "sh" and body.startswith(("rt check ", "rt staticlib ")):
                 at_top(body, following)
+                if "> new.bin" in body:
+                    sealing_recipe(body, scratch)
             elif kind == "sh" and body.startswith("xxd "):
                 hexadecimal(body, scratch)
             elif kind == "sh" and body.startswith("listing="):
