@@ -1,5 +1,5 @@
 -- An archive as its jobs (01, The dryer archive; 02, a and d): the jobs that a file has, and the archive that jobs make, of the layout that
--- the tag key says. Bodies are sealed here: no definition looks into one.
+-- the tag key says. The bodies are sealed ones, and no definition looks into one.
 -- Assumes nothing.
 use mathlib.Core.Path.{_≡_}
 use mathlib.Core.Bool.{true}
@@ -47,7 +47,7 @@ unfoldable pub archiveOf : List ℕ → List ℕ → List ℕ → List Job → L
 archiveOf key tagKey number js = frontOf key tagKey number js ++ tagBytes tagKey (frontOf key tagKey number js)
 
 -- an archive number and jobs of which an archive can be built under a tag key: four bytes; numbers of eight digits that ascend by the order
--- of years; at most 64 jobs, in at most 65,536 bytes. Nothing is said of bytes below 256
+-- of years; at most 64 jobs, in at most 65,536 bytes. That elements are bytes is not asked
 pub record Fine (tagKey number : List ℕ) (js : List Job) : Type 0 where
   pub four : length number ≡ 4
   pub numeric : Each (λ (j : Job). isJobNumber (j .number) ≡ true) js

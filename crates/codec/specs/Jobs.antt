@@ -1,12 +1,12 @@
--- Jobs, and what an archive writes of them (01, The dryer archive): "the contents, 16 bytes a job: eight ASCII digits of job number, four
--- bytes of start .. and four bytes of length. Then the sealed bodies in the same order without gaps."
+-- Jobs, and what an archive writes of them (01, The dryer archive): an entry of sixteen bytes a job, its digits, its start and its length,
+-- and "Then the sealed bodies in the same order without gaps."
 -- Assumes nothing.
 use mathlib.Core.List.{List, [], _∷_, _++_}
 use Prim.Native.Nat.{ℕ, _+_, _<_}
 use lib.ListN.{length, getD, take}
 use Rattle.octets.specs.Numbers.{bytes32}
 
--- a job: its number, eight digits, and its body
+-- a job: its number, eight digits, and its body, which is sealed in an archive and plain where it comes from or goes to
 pub record Job : Type 0 where
   pub number : List ℕ
   pub body : List ℕ
@@ -25,6 +25,8 @@ unfoldable pub bodiesIn : List Job → List ℕ
 bodiesIn [] = []
 bodiesIn (j ∷ js) = j .body ++ bodiesIn js
 
+-- ---- what laws speak of
+
 -- job i, counted from 0; a job of no bytes where there are not so many
 abbrev pub noJob : Job
 noJob = record { number = []; body = [] }
@@ -35,6 +37,8 @@ jobIn js i = getD js i noJob
 -- where the body of job i starts: after those before it
 abbrev pub startAt : ℕ → List Job → ℕ → ℕ
 startAt start js i = start + length (bodiesIn (take i js))
+
+-- ---- what an archive asks of its jobs
 
 -- something holds of every job
 pub data Each (P : Job → Type 0) : List Job → Type 0 where

@@ -4,7 +4,7 @@ ghost use mathlib.Core.Path.{_≡_};
 ghost use Rattle.codec.specs.Jobs.{entryOf};
 ghost use Rattle.codec.specs.Archive.{headerOf};
 
-// A header of these fields.
+// A header of these fields; of a count or a length that its field does not hold, the remainder is written.
 pub fn header(
     layout: u8,
     keysize: u8,
@@ -29,7 +29,7 @@ pub fn header(
     out
 }
 
-// The entry of a job whose body of `size` bytes starts at a place.
+// The entry of a job whose body of `size` bytes starts at a place, with remainders likewise.
 pub fn entry(number: [u8; 8], start: usize, size: usize) -> [u8; 16]
     ensures { λ r. ⌜ r ≡ entryOf number start size ⌝ }
 {

@@ -21,7 +21,7 @@ layoutOf file = getD file 0 0
 unfoldable pub isLayout : ℕ → Bool
 isLayout n = eqb n 1 || eqb n 2
 
--- the layout that is read under a tag key: 1 where there is none, which is a tag key of 0 bytes
+-- the layout that is read and written under a tag key: 1 where there is none, which is a tag key of 0 bytes
 unfoldable pub layoutUnder : List ℕ → ℕ
 layoutUnder tagKey = cond (eqb (length tagKey) 0) 1 2
 

@@ -18,3 +18,9 @@ pub record Filled (before : List ℕ) (n : ℕ) (after : List ℕ) : Type 0 wher
 -- where a read failed, the buffer is not full: an input that fills it was read so far without an error
 abbrev pub FailsShort : Bool → ℕ → List ℕ → Type 0
 FailsShort failed n buf = failed ≡ true → n < length buf
+
+-- how many bytes a file has beyond the buffer, by the remainder modulo 12: none where it did not fill it. Else it is the operating
+-- system's choice
+pub record Beyond (n beyond : ℕ) (buf : List ℕ) : Type 0 where
+  pub small : beyond < 12
+  pub none : n < length buf → beyond ≡ 0

@@ -3,7 +3,7 @@ ghost use mathlib.Core.Path.{_≡_};
 ghost use Prim.Native.Nat.{_≤_, _<_, min};
 ghost use lib.ListN.{length};
 ghost use Rattle.io.specs.Counts.{Counts};
-ghost use Rattle.inputs.specs.Filled.{Filled, FailsShort};
+ghost use Rattle.inputs.specs.Filled.{Filled, FailsShort, Beyond};
 use libc::STDIN_FILENO;
 
 // How many bytes were read, and whether a read failed. Within what the contracts say, both are the operating system's choice.
@@ -176,7 +176,7 @@ pub struct Counted {
     pub failed: bool,
 }
 
-// How many chunks are counted, more than any disk has; a file that is longer counts as one that cannot be read.
+// How many chunks are counted, 17 terabytes of them; a file that is longer, as a device may be, counts as one that cannot be read.
 const CHUNKS: usize = 4294967296;
 
 // Reads to the end, and answers how many bytes that were, by the remainder modulo 12, which divides a chunk.
@@ -206,7 +206,7 @@ fn count_rest(fd: i32) -> Input
 // Reads a file into a buffer until it is full or the file ends or a read fails, and then counts what is beyond.
 fn read_counted(fd: i32, buf: &mut [u8]) -> Counted
     ensures { λ r. ⌜ Filled (now (buf .entry)) (r .length) (now (buf .exit)) ⌝ }
-    ensures { λ r. ⌜ r .beyond < 12 ⌝ }
+    ensures { λ r. ⌜ Beyond (r .length) (r .beyond) (now (buf .exit)) ⌝ }
 {
     let input = read_all(fd, buf);
     let length = input.length;
@@ -226,11 +226,12 @@ fn read_counted(fd: i32, buf: &mut [u8]) -> Counted
     }
 }
 
-// Reads a file of lines of twelve bytes to its end, however long it is: its first bytes into the buffer, and of the rest how many bytes
-// they are, by the remainder. A file that is missing counts as empty; one that cannot be opened counts as one whose first read failed.
+// Reads a file to its end, however long it is: its first bytes into the buffer, and of the rest how many bytes they are, by the remainder
+// modulo 12, the length of a sheet's line. A file that is missing counts as empty; one that cannot be opened counts as one whose first
+// read failed.
 pub fn counted_file(name: &[u8], buf: &mut [u8]) -> Counted
     ensures { λ r. ⌜ Filled (now (buf .entry)) (r .length) (now (buf .exit)) ⌝ }
-    ensures { λ r. ⌜ r .beyond < 12 ⌝ }
+    ensures { λ r. ⌜ Beyond (r .length) (r .beyond) (now (buf .exit)) ⌝ }
 {
     let fd = os::open_read(name);
     if fd < 0 {

@@ -70,7 +70,7 @@ fn seal_sheet(sheet: &[u8]) {
     // one byte more than the longest key, so that a file which is longer, or cannot be read, is no tag key
     let mut tag_key = [0u8; 33];
     let t = inputs::named_file(b"tag.bin", &mut tag_key);
-    // one byte more than any archive has bodies, so that there is no telling longer inputs apart
+    // one byte more than the longest archive, so more than any archive has plain bytes: how many more does not matter
     let mut plain = [0u8; 65537];
     let input = inputs::standard_input(&mut plain);
     if input.failed {
@@ -83,7 +83,7 @@ fn seal_sheet(sheet: &[u8]) {
 
 fn main() {
     hint();
-    // the first lines, one more than any archive has jobs, and eleven bytes; how many more there are is counted
+    // five bytes, one line more than any archive has jobs, and eleven bytes more; what is beyond is counted
     let mut sheet = [0u8; 796];
     let counted = inputs::counted_file(b"sheet.bin", &mut sheet);
     if counted.failed {

@@ -13,7 +13,7 @@ use Rattle.codec.specs.Jobs.{none, more}
 use Rattle.codec.proofs.JobLaws.{start-first, start-next, start-end, tiled}
 use Rattle.opening.specs.Open.{underKeystream}
 use Rattle.opening.proofs.Xor.{opening-xors}
-use Rattle.sheet.specs.Sheet.{lines, jobOn, sizeOn, sizesOn}
+use Rattle.sheet.specs.Sheet.{lines, jobNumberOn, sizeOn, sizesOn}
 use Rattle.sheet.proofs.LineLaws.{sizes-within}
 use Rattle.sealing.specs.Seal.{plainOn, jobsOn, sealJob, sealJobs}
 
@@ -70,7 +70,7 @@ module _ (sheet plain : List ℕ) where
   js = jobsOn sheet plain
 
   abbrev jobAt : ℕ → Job
-  jobAt i = record { number = jobOn sheet i; body = plainOn sheet plain i }
+  jobAt i = record { number = jobNumberOn sheet i; body = plainOn sheet plain i }
 
   pub jobs-length : length js ≡ lines sheet
   unfolding jobsOn

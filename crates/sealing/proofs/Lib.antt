@@ -5,3 +5,4 @@ pub mod Ways
 pub mod Opens
 pub mod Rebuilds
 pub mod Long
+pub mod WrittenOut

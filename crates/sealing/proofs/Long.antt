@@ -11,18 +11,18 @@ use lib.ListN.{length, getD, take, length-take}
 use lib.Seq.{take-all, take-take, getD-take, length-take-le}
 use Rattle.refusals.specs.Cases.{when, firstOf}
 use Rattle.refusals.specs.Answers.{refused, answer}
-use Rattle.refusals.specs.Shared.{tagKeyCases}
-use Rattle.refusals.proofs.Booleans.{same-test}
+use Rattle.refusals.specs.Shared.{goodKey, tagKeyCases}
+use Rattle.refusals.proofs.Booleans.{not-yes, same-test}
 use Rattle.refusals.proofs.Cases.{first-alike, first-stop, stop, skip}
 use Rattle.refusals.proofs.Answers.{answer-gives, answer-refused}
-use Rattle.refusals.proofs.Shared.{key-most, tag-key-positive}
+use Rattle.refusals.proofs.Shared.{key-1, key-most, tag-key-positive, tag-key-some}
 use Rattle.header.specs.Fields.{layoutUnder}
 use Rattle.sheet.specs.Sheet.{keySizeOf, keySizeOn, lines, sizesOn}
 use Rattle.sheet.specs.Cases.{isLength, isKeyLength, sheetCases, linesCases}
 use Rattle.sheet.proofs.Long.{cut-long, cut-short}
 use Rattle.sheet.proofs.Cases.{sheet-positive, sheet-good, key-size-good, lines-positive, too-many}
 use Rattle.sealing.specs.Seal.{keyOn, sealedFile, lengthOn, keyFileCases, lengthCases, restCases, sealCases, sealOf, Seals}
-use Rattle.sealing.specs.Long.{LongSheet, LongInput, LongKeyFile}
+use Rattle.sealing.specs.Long.{LongSheet, LongInput, LongKeyFile, LongTagKey}
 use Rattle.sealing.proofs.Cases.{key-file-positive, seal-good, written-same, given-good}
 
 -- ---- the key file
@@ -68,6 +68,58 @@ long-key-file keyFile tagKey sheet plain before a after s =
     file-same : (f g tagKey sheet plain : List ℕ) → keyOn f sheet ≡ keyOn g sheet
         → sealedFile f tagKey sheet plain ≡ sealedFile g tagKey sheet plain
     file-same f g tagKey sheet plain e = rw e
+
+-- ---- the tag key
+
+-- of 33 bytes or more it is refused
+tag-key-long : (n : ℕ) → 32 < n → firstOf (tagKeyCases n) ≡ 1
+tag-key-long n l =
+    let some : n ≡ 0 → ⊥ = λ q. omega arith in
+    let bad : goodKey n ≡ false = not-yes (goodKey n) (λ e. omega (arith, key-most n e)) in
+    tag-key-some n some ∙ key-1 n bad
+
+module _ (keyFile tagKey sheet : List ℕ) (given room : ℕ) (l : 33 < length tagKey) where
+  thirty-three : length (take 33 tagKey) ≡ 33
+  thirty-three = length-take-le 33 tagKey (omega arith)
+
+  tag-key-alike : firstOf (tagKeyCases (length (take 33 tagKey))) ≡ firstOf (tagKeyCases (length tagKey))
+  tag-key-alike = tag-key-long _ (omega (arith, thirty-three)) ∙ sym (tag-key-long (length tagKey) (omega arith))
+
+  tagged-alike : firstOf (sealCases keyFile (take 33 tagKey) sheet given room) ≡ firstOf (sealCases keyFile tagKey sheet given room)
+  unfolding sealCases
+  tagged-alike =
+      let s = sheet-positive sheet in
+      let k = key-file-positive (length keyFile) (keySizeOn sheet) in
+      first-alike (sheetCases sheet) (sheetCases sheet) _ _ s s refl
+      (λ z. first-alike (keyFileCases (length keyFile) (keySizeOn sheet)) (keyFileCases (length keyFile) (keySizeOn sheet)) _ _ k k refl
+      (λ z. first-alike (tagKeyCases (length (take 33 tagKey))) (tagKeyCases (length tagKey)) _ _ (tag-key-positive _) (tag-key-positive _)
+      tag-key-alike (λ none. absurd (omega (arith, none, tag-key-alike, tag-key-long (length tagKey) (omega arith))))))
+
+  -- both are refused
+  tagged-case : firstOf (sealCases keyFile tagKey sheet given room) ≡ 0 → ⊥
+  tagged-case z =
+      let good = seal-good keyFile tagKey sheet given room z in
+      omega (arith, good .tagged, tag-key-long (length tagKey) (omega arith))
+
+pub long-tag-key : LongTagKey
+long-tag-key keyFile tagKey sheet plain before a after s = go (ltb 33 (length tagKey)) refl
+  where
+    go : (b : Bool) → ltb 33 (length tagKey) ≡ b → Seals keyFile tagKey sheet plain before a after
+    go false e = subst (λ (t : List ℕ). Seals keyFile t sheet plain before a after) (take-all 33 tagKey (ltb-false _ _ e)) s
+    go true e =
+        let l : 33 < length tagKey = ltb-true _ _ e in
+        let alike = tagged-alike keyFile tagKey sheet (length plain) (length before) l in
+        let some = tagged-case keyFile tagKey sheet (length plain) (length before) l in
+        record {
+          answered =
+              s .answered
+              ∙ answer-refused _ _ (λ z. some (sym alike ∙ z))
+              ∙ ap refused alike
+              ∙ sym (answer-refused _ (lengthOn (layoutUnder tagKey) sheet) some);
+          bytes =
+              s .bytes
+              ∙ written-same a _ _ before (λ n g. absurd (some (sym alike ∙ answer-gives _ _ n (sym (s .answered) ∙ g) .0)));
+        }
 
 -- ---- the plain bytes
 

@@ -38,7 +38,7 @@ use Rattle.codec.proofs.Laid.{Laid}
 use Rattle.codec.proofs.Rebuilt.{accepted-fine, accepted-laid, whole-length, rebuilt}
 use Rattle.opening.specs.Open.{underKeystream, plainOf}
 use Rattle.opening.proofs.Xor.{opening-xors}
-use Rattle.sheet.specs.Sheet.{keySizeOf, numberOn, lines, lineAt, jobOn, sizeOn, sizesOn}
+use Rattle.sheet.specs.Sheet.{keySizeOf, archiveNumberOn, lines, lineAt, jobNumberOn, sizeOn, sizesOn}
 use Rattle.sheet.proofs.LineLaws.{line-inside}
 use Rattle.sheet.proofs.Cases.{key-length-good}
 use Rattle.sealing.specs.Seal.{keyOn, plainOn, jobsOn, sealJobs, sealedFile, lengthOn}
@@ -111,8 +111,8 @@ module _ (key tagKey file : List ℕ) (n : ℕ) (e : checkOf key tagKey file ≡
   count : lines sheet ≡ length js
   count = omega (arith, size, laid .counted)
 
-  named : numberOn sheet ≡ name
-  unfolding numberOn sheetOf
+  named : archiveNumberOn sheet ≡ name
+  unfolding archiveNumberOn sheetOf
   named = take-at name (row (lineOf file) (countOf file)) 4 (fine .four)
 
   first-byte : getD sheet 0 0 ≡ k
@@ -131,7 +131,7 @@ module _ (key tagKey file : List ℕ) (n : ℕ) (e : checkOf key tagKey file ≡
       ∙ ap (take 12) (sym (drop-drop (12 * i) 5 sheet) ∙ ap (drop (12 * i)) (after ∙ sym (append-nil rows)))
       ∙ part-at (lineOf file) 12 (countOf file) i [] twelve (omega (arith, laid .counted))
 
-  job-on : (i : ℕ) → i < length js → jobOn sheet i ≡ jobIn js i .number
+  job-on : (i : ℕ) → i < length js → jobNumberOn sheet i ≡ jobIn js i .number
   job-on i l = ap (take 8) (line i l) ∙ take-at (numberOf (entryAt (directoryOf file) i)) _ 8 (eight i l) ∙ number i l
 
   size-on : (i : ℕ) → i < length js → sizeOn sheet i ≡ length (jobIn js i .body)
@@ -195,7 +195,7 @@ module _ (key tagKey file : List ℕ) (n : ℕ) (e : checkOf key tagKey file ≡
   jobs : jobsOn sheet plain ≡ ps
   unfolding jobsOn
   jobs =
-      let of : ℕ → Job = λ i. record { number = jobOn sheet i; body = plainOn sheet plain i } in
+      let of : ℕ → Job = λ i. record { number = jobNumberOn sheet i; body = plainOn sheet plain i } in
       let m = sealed-length (scheduleOf key) name js in
       ap (values of) (count ∙ sym m)
       ∙ values-of of ps noJob

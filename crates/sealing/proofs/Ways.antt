@@ -36,7 +36,7 @@ use Rattle.admission.specs.Check.{keyCheck, tagBytes}
 use Rattle.admission.proofs.Tags.{tag-under, tag-absent}
 use Rattle.codec.proofs.Lengths.{check-length}
 use Rattle.codec.proofs.Parts.{header-length}
-use Rattle.sheet.specs.Sheet.{keySizeOn, numberOn, lines}
+use Rattle.sheet.specs.Sheet.{keySizeOn, archiveNumberOn, lines}
 use Rattle.sheet.specs.Cases.{sheetCases}
 use Rattle.sheet.proofs.LineLaws.{number-length}
 use Rattle.sheet.proofs.Cases.{sheet-positive, sheet-good, key-size-good}
@@ -56,7 +56,7 @@ module _ (layout : ℕ) (s : Schedule) (sheet plain : List ℕ) (m : Measured sh
 
   header-size : length (headerOn layout s sheet) ≡ 20
   header-size =
-      header-length layout (keySizeOn sheet) (lines sheet) (numberOn sheet) (keyCheck s) (lengthOn layout sheet)
+      header-length layout (keySizeOn sheet) (lines sheet) (archiveNumberOn sheet) (keyCheck s) (lengthOn layout sheet)
       (number-length sheet (m .lined .five)) (check-length s)
 
   directory-size : length (directoryOn sheet from) ≡ 16 * lines sheet

@@ -17,7 +17,7 @@ use Rattle.codec.specs.Archive.{wholeLength, headerOf, frontOf, archiveOf}
 use Rattle.codec.proofs.JobLaws.{start-first, start-next, directory-row, bodies-row}
 use Rattle.opening.specs.Open.{underKeystream}
 use Rattle.opening.proofs.Xor.{opening-xors}
-use Rattle.sheet.specs.Sheet.{keySizeOn, numberOn, lines, jobOn, sizeOn, sizesOn}
+use Rattle.sheet.specs.Sheet.{keySizeOn, archiveNumberOn, lines, jobNumberOn, sizeOn, sizesOn}
 use Rattle.sheet.proofs.LineLaws.{job-length}
 use Rattle.sealing.specs.Seal.{keyOn, plainOn, jobsOn, sealJob, sealJobs, sealedFile, lengthOn}
 use Rattle.sealing.specs.Internal.{headerOn, entryOn, directoryOn, bodyOn, bodiesOn, frontOn}
@@ -52,7 +52,9 @@ module _ (s : Schedule) (sheet plain : List ℕ) (exact : sizesOn sheet (lines s
   sealed = bodyOn s sheet plain
 
   sealed-size : (i : ℕ) → i < lines sheet → length (sealed i) ≡ sizeOn sheet i
-  sealed-size i l = opening-xors s (numberOn sheet) (jobOn sheet i) (plainOn sheet plain i) .size ∙ plain-length sheet plain exact i l
+  sealed-size i l =
+      opening-xors s (archiveNumberOn sheet) (jobNumberOn sheet i) (plainOn sheet plain i) .size
+      ∙ plain-length sheet plain exact i l
 
   pub bodies-size : (i : ℕ) → i ≤ lines sheet → length (row sealed i) ≡ sizesOn sheet i
   unfolding row sizesOn
@@ -61,7 +63,8 @@ module _ (s : Schedule) (sheet plain : List ℕ) (exact : sizesOn sheet (lines s
 
   -- a turn of the loop that seals them in place
   pub bodies-turn : (i at k : ℕ) (run ys : List ℕ) → i < lines sheet → at ≡ sizesOn sheet i → k ≡ sizeOn sheet i
-      → run ≡ row sealed i ++ drop (sizesOn sheet i) plain → ys ≡ underKeystream s (numberOn sheet) (jobOn sheet i) (take k (drop at run))
+      → run ≡ row sealed i ++ drop (sizesOn sheet i) plain
+      → ys ≡ underKeystream s (archiveNumberOn sheet) (jobNumberOn sheet i) (take k (drop at run))
       → take at run ++ (ys ++ drop k (drop at run)) ≡ row sealed (suc i) ++ drop (sizesOn sheet (suc i)) plain
   unfolding row sizesOn
   bodies-turn i at k run ys l ea ek e ey =
@@ -70,7 +73,8 @@ module _ (s : Schedule) (sheet plain : List ℕ) (exact : sizesOn sheet (lines s
       let seam : length done ≡ at = bodies-size i (omega arith) ∙ sym ea in
       let front : take at run ≡ done = ap (take at) e ∙ take-at done left at seam in
       let back : drop at run ≡ left = ap (drop at) e ∙ drop-at done left at seam in
-      let here : ys ≡ sealed i = ey ∙ ap₂ (λ (n : ℕ) (x : List ℕ). underKeystream s (numberOn sheet) (jobOn sheet i) (take n x)) ek back in
+      let under : List ℕ → List ℕ = underKeystream s (archiveNumberOn sheet) (jobNumberOn sheet i) in
+      let here : ys ≡ sealed i = ey ∙ ap₂ (λ (n : ℕ) (x : List ℕ). under (take n x)) ek back in
       let rest : drop k (drop at run) ≡ drop (sizesOn sheet i + sizeOn sheet i) plain =
       ap₂ (λ (n : ℕ) (x : List ℕ). drop n x) ek back ∙ drop-drop (sizeOn sheet i) (sizesOn sheet i) plain in
       ap₂ (λ (u v : List ℕ). u ++ v) front (ap₂ (λ (u v : List ℕ). u ++ v) here rest)
@@ -88,15 +92,15 @@ sums sheet from ks n h (suc i) l = omega (arith, start-next from ks i (omega ari
 
 module _ (s : Schedule) (sheet plain : List ℕ) (exact : sizesOn sheet (lines sheet) ≡ length plain) where
   abbrev ks : List Job
-  ks = sealJobs s (numberOn sheet) (jobsOn sheet plain)
+  ks = sealJobs s (archiveNumberOn sheet) (jobsOn sheet plain)
 
   pub sealed-count : length ks ≡ lines sheet
-  sealed-count = sealed-length s (numberOn sheet) (jobsOn sheet plain) ∙ jobs-length sheet plain
+  sealed-count = sealed-length s (archiveNumberOn sheet) (jobsOn sheet plain) ∙ jobs-length sheet plain
 
-  pub sealed-job : (i : ℕ) → i < lines sheet → jobIn ks i ≡ record { number = jobOn sheet i; body = bodyOn s sheet plain i }
+  pub sealed-job : (i : ℕ) → i < lines sheet → jobIn ks i ≡ record { number = jobNumberOn sheet i; body = bodyOn s sheet plain i }
   sealed-job i l =
-      sealed-at s (numberOn sheet) (jobsOn sheet plain) i (omega (arith, jobs-length sheet plain))
-      ∙ ap (sealJob s (numberOn sheet)) (job-at sheet plain i l)
+      sealed-at s (archiveNumberOn sheet) (jobsOn sheet plain) i (omega (arith, jobs-length sheet plain))
+      ∙ ap (sealJob s (archiveNumberOn sheet)) (job-at sheet plain i l)
 
   pub sealed-body : (i : ℕ) → i < lines sheet → length (jobIn ks i .body) ≡ sizeOn sheet i
   sealed-body i l = ap (λ (j : Job). length (j .body)) (sealed-job i l) ∙ sealed-size s sheet plain exact i l
@@ -129,7 +133,7 @@ module _ (s : Schedule) (sheet plain : List ℕ) (exact : sizesOn sheet (lines s
       omega (
         arith,
         sealed-count,
-        sealed-bodies s (numberOn sheet) (jobsOn sheet plain),
+        sealed-bodies s (archiveNumberOn sheet) (jobsOn sheet plain),
         bodies-length sheet plain exact,
         exact,
       )
@@ -142,22 +146,23 @@ module _ (keyFile tagKey sheet plain : List ℕ) (keyed : keySizeOn sheet ≤ le
   key = keyOn keyFile sheet
 
   abbrev js : List Job
-  js = sealJobs (scheduleOf key) (numberOn sheet) (jobsOn sheet plain)
+  js = sealJobs (scheduleOf key) (archiveNumberOn sheet) (jobsOn sheet plain)
 
   pub key-length : length key ≡ keySizeOn sheet
   key-length = length-take-le (keySizeOn sheet) keyFile keyed
 
-  front-on : frontOn (layoutUnder tagKey) (scheduleOf key) sheet plain ≡ frontOf key tagKey (numberOn sheet) js
+  front-on : frontOn (layoutUnder tagKey) (scheduleOf key) sheet plain ≡ frontOf key tagKey (archiveNumberOn sheet) js
   unfolding frontOn frontOf
   front-on =
       let n : lines sheet ≡ length js = sym (sealed-count (scheduleOf key) sheet plain exact) in
       let head : headerOn (layoutUnder tagKey) (scheduleOf key) sheet
-      ≡ headerOf (layoutUnder tagKey) (length key) (length js) (numberOn sheet) (keyCheck (scheduleOf key))
+      ≡ headerOf (layoutUnder tagKey) (length key) (length js) (archiveNumberOn sheet) (keyCheck (scheduleOf key))
       (wholeLength (layoutUnder tagKey) js) =
       ap₂
-      (λ (k c : ℕ). headerOf (layoutUnder tagKey) k c (numberOn sheet) (keyCheck (scheduleOf key)) (lengthOn (layoutUnder tagKey) sheet))
+      (λ (k c : ℕ).
+      headerOf (layoutUnder tagKey) k c (archiveNumberOn sheet) (keyCheck (scheduleOf key)) (lengthOn (layoutUnder tagKey) sheet))
       (sym key-length) n
-      ∙ ap (headerOf (layoutUnder tagKey) (length key) (length js) (numberOn sheet) (keyCheck (scheduleOf key)))
+      ∙ ap (headerOf (layoutUnder tagKey) (length key) (length js) (archiveNumberOn sheet) (keyCheck (scheduleOf key)))
       (length-on (scheduleOf key) sheet plain exact (layoutUnder tagKey))
       in
       ap₂ (λ (h r : List ℕ). h ++ r) head

@@ -14,24 +14,24 @@ use Rattle.admission.specs.Check.{keyCheck, tagBytes}
 use Rattle.codec.specs.Jobs.{entryOf}
 use Rattle.codec.specs.Archive.{headerOf}
 use Rattle.opening.specs.Open.{underKeystream}
-use Rattle.sheet.specs.Sheet.{keySizeOn, numberOn, lines, jobOn, sizeOn, sizesOn}
+use Rattle.sheet.specs.Sheet.{keySizeOn, archiveNumberOn, lines, jobNumberOn, sizeOn, sizesOn}
 use Rattle.sealing.specs.Seal.{plainOn, lengthOn, restCases}
 
 -- ---- what is written, line by line
 
 abbrev pub headerOn : ℕ → Schedule → List ℕ → List ℕ
-headerOn layout s sheet = headerOf layout (keySizeOn sheet) (lines sheet) (numberOn sheet) (keyCheck s) (lengthOn layout sheet)
+headerOn layout s sheet = headerOf layout (keySizeOn sheet) (lines sheet) (archiveNumberOn sheet) (keyCheck s) (lengthOn layout sheet)
 
 -- the entry of line i, the first body starting at `from`, and the directory
 abbrev pub entryOn : List ℕ → ℕ → ℕ → List ℕ
-entryOn sheet from i = entryOf (jobOn sheet i) (from + sizesOn sheet i) (sizeOn sheet i)
+entryOn sheet from i = entryOf (jobNumberOn sheet i) (from + sizesOn sheet i) (sizeOn sheet i)
 
 unfoldable pub directoryOn : List ℕ → ℕ → List ℕ
 directoryOn sheet from = row (entryOn sheet from) (lines sheet)
 
 -- the sealed body of line i, and all
 abbrev pub bodyOn : Schedule → List ℕ → List ℕ → ℕ → List ℕ
-bodyOn s sheet plain i = underKeystream s (numberOn sheet) (jobOn sheet i) (plainOn sheet plain i)
+bodyOn s sheet plain i = underKeystream s (archiveNumberOn sheet) (jobNumberOn sheet i) (plainOn sheet plain i)
 
 unfoldable pub bodiesOn : Schedule → List ℕ → List ℕ → List ℕ
 bodiesOn s sheet plain = row (bodyOn s sheet plain) (lines sheet)
@@ -42,7 +42,7 @@ frontOn layout s sheet plain = headerOn layout s sheet ++ (directoryOn sheet (20
 
 -- ---- what is known when writing begins
 
--- the sheet has whole lines, at most 64
+-- the sheet has its first five bytes, and at most 64 lines
 pub record Lined (sheet : List ℕ) : Type 0 where
   pub five : 5 ≤ length sheet
   pub few : lines sheet ≤ 64

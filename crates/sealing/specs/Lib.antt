@@ -3,3 +3,4 @@ pub mod Internal
 pub mod Opens
 pub mod Rebuilds
 pub mod Long
+pub mod WrittenOut

@@ -7,11 +7,11 @@ use Prim.Native.Nat.{ℕ, _+_, _*_, _<_, _≤_}
 use lib.ListN.{length, take, drop}
 use Rattle.refusals.specs.Answers.{Answer, gives}
 use Rattle.blocks.specs.Blocks.{row}
-use Rattle.header.specs.Fields.{archiveNumber, directoryOf}
+use Rattle.header.specs.Fields.{layoutOf, layoutUnder, keyLengthOf, archiveNumber, directoryOf}
 use Rattle.directory.specs.Entries.{entryAt, numberOf, startOf, sizeOf}
 use Rattle.archive.specs.Check.{checkOf}
 use Rattle.opening.specs.Open.{jobSize, rangeOf, Opens}
-use Rattle.sheet.specs.Sheet.{numberOn, lines, jobOn, sizeOn, sizesOn}
+use Rattle.sheet.specs.Sheet.{keySizeOn, archiveNumberOn, lines, jobNumberOn, sizeOn, sizesOn}
 use Rattle.sealing.specs.Seal.{keyOn, plainOn, Seals}
 
 -- any call that meets the contract of opening gives the plain bytes of the job, the whole and any range of it, in any buffer long enough
@@ -23,19 +23,23 @@ pub record OpensTo (key tagKey file number plain : List ℕ) : Type 0 where
       → Opens key tagKey file number first count before a after
       → (a ≡ gives count) × (after ≡ rangeOf first count plain ++ drop count before)
 
--- a file of n bytes is the archive of a sheet and of plain bytes
+-- a file of n bytes is the archive of a sheet and of plain bytes: its layout is 2 where there is a tag key, its header says the key's
+-- length, never 0, and the sheet's archive number, its entries are the sheet's jobs, and each opens to its plain bytes
 pub record SealedArchive (key tagKey sheet plain file : List ℕ) (n : ℕ) : Type 0 where
   pub size : length file ≡ n
   pub accepted : checkOf key tagKey file ≡ gives (lines sheet)
-  pub named : archiveNumber file ≡ numberOn sheet
-  pub numbers : (i : ℕ) → i < lines sheet → numberOf (entryAt (directoryOf file) i) ≡ jobOn sheet i
+  pub layout : layoutOf file ≡ layoutUnder tagKey
+  pub keyed : keyLengthOf file ≡ keySizeOn sheet
+  pub named : archiveNumber file ≡ archiveNumberOn sheet
+  pub numbers : (i : ℕ) → i < lines sheet → numberOf (entryAt (directoryOf file) i) ≡ jobNumberOn sheet i
   pub starts : (i : ℕ) → i < lines sheet → startOf (entryAt (directoryOf file) i) ≡ 20 + 16 * lines sheet + sizesOn sheet i
   pub sizes : (i : ℕ) → i < lines sheet → sizeOf (entryAt (directoryOf file) i) ≡ sizeOn sheet i
-  pub opens : (i : ℕ) → i < lines sheet → OpensTo key tagKey file (jobOn sheet i) (plainOn sheet plain i)
-  pub long : (i : ℕ) → i < lines sheet → length (plainOn sheet plain i) ≡ sizeOn sheet i
+  pub opens : (i : ℕ) → i < lines sheet → OpensTo key tagKey file (jobNumberOn sheet i) (plainOn sheet plain i)
+  pub measured : (i : ℕ) → i < lines sheet → length (plainOn sheet plain i) ≡ sizeOn sheet i
   pub all : row (plainOn sheet plain) (lines sheet) ≡ plain
 
--- any call that meets the contract of sealing and gives n: the first n bytes of the buffer, under the sheet's key; the rest is as it was
+-- of any call that meets the contract of sealing and gives n, the first n bytes of the buffer are that archive, under the key that the
+-- sheet cuts from the key file, and the rest is as it was
 pub record SealedOpen (keyFile tagKey sheet plain before : List ℕ) (n : ℕ) (after : List ℕ) : Type 0 where
   pub archive : SealedArchive (keyOn keyFile sheet) tagKey sheet plain (take n after) n
   pub rest : drop n after ≡ drop n before

@@ -24,7 +24,7 @@ lineOf file i = numberOf (entryAt (directoryOf file) i) ++ bytes32 (sizeOf (entr
 unfoldable pub sheetOf : ℕ → List ℕ → List ℕ
 sheetOf k file = k ∷ (archiveNumber file ++ row (lineOf file) (countOf file))
 
--- the plain bodies that opening gives, end to end
+-- the plain bodies that opening gives, end to end: `plainOf` is what any opening of a whole job writes (`WholeJobs` of opening)
 unfoldable pub plainsOf : List ℕ → List ℕ → List ℕ
 plainsOf key file = row (λ (i : ℕ). plainOf (scheduleOf key) file (numberOf (entryAt (directoryOf file) i))) (countOf file)
 

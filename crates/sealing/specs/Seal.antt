@@ -1,6 +1,6 @@
 -- Sealing jobs into an archive (02, a): "A new call takes a key file's bytes, a job sheet and the plain bodies end to end, writes an
 -- archive at the front of a lent buffer and answers its length. .. The key is the first so many bytes of the key file. .. The buffer's
--- bytes past the archive stay unaltered." With a tag key, of any length but 0, it is an archive of layout 2 (02, d).
+-- bytes past the archive stay unaltered." With a tag key, which is one that has bytes, it is an archive of layout 2 (02, d).
 -- Assumes nothing.
 use mathlib.Core.Path.{_≡_}
 use mathlib.Core.List.{List, [], _∷_, _++_, map}
@@ -17,7 +17,7 @@ use Rattle.header.specs.Fields.{layoutUnder, tagSize}
 use Rattle.codec.specs.Jobs.{Job}
 use Rattle.codec.specs.Archive.{archiveOf}
 use Rattle.opening.specs.Open.{underKeystream}
-use Rattle.sheet.specs.Sheet.{keySizeOn, numberOn, lines, jobOn, sizeOn, sizesOn}
+use Rattle.sheet.specs.Sheet.{keySizeOn, archiveNumberOn, lines, jobNumberOn, sizeOn, sizesOn}
 use Rattle.sheet.specs.Cases.{sheetCases, linesCases}
 use Rattle.sealing.specs.declared.Sealed.{Sealed}
 use Rattle.sealing.specs.declared.Sealed.the-variants.{Bytes, Refused}
@@ -34,7 +34,7 @@ plainOn sheet plain i = take (sizeOn sheet i) (drop (sizesOn sheet i) plain)
 
 -- the jobs, with their plain bodies
 unfoldable pub jobsOn : List ℕ → List ℕ → List Job
-jobsOn sheet plain = values (λ (i : ℕ). record { number = jobOn sheet i; body = plainOn sheet plain i }) (lines sheet)
+jobsOn sheet plain = values (λ (i : ℕ). record { number = jobNumberOn sheet i; body = plainOn sheet plain i }) (lines sheet)
 
 -- a job with its body under the keystream of the archive number and its own: of plain bytes the sealed body, and the other way round
 abbrev pub sealJob : Schedule → List ℕ → Job → Job
@@ -46,8 +46,8 @@ sealJobs s archive js = map (sealJob s archive) js
 -- the archive
 unfoldable pub sealedFile : List ℕ → List ℕ → List ℕ → List ℕ → List ℕ
 sealedFile keyFile tagKey sheet plain =
-    archiveOf (keyOn keyFile sheet) tagKey (numberOn sheet)
-    (sealJobs (scheduleOf (keyOn keyFile sheet)) (numberOn sheet) (jobsOn sheet plain))
+    archiveOf (keyOn keyFile sheet) tagKey (archiveNumberOn sheet)
+    (sealJobs (scheduleOf (keyOn keyFile sheet)) (archiveNumberOn sheet) (jobsOn sheet plain))
 
 -- ---- the cases
 

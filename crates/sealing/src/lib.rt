@@ -12,7 +12,7 @@ ghost use Rattle.refusals.specs.Shared.{goodRounds};
 ghost use Rattle.cmac.specs.Tag.{tagUnder};
 ghost use Rattle.header.specs.Fields.{tagSize};
 ghost use Rattle.opening.specs.Open.{prefixOf};
-ghost use Rattle.sheet.specs.Sheet.{numberOn, lines, jobOn, sizesOn};
+ghost use Rattle.sheet.specs.Sheet.{archiveNumberOn, lines, jobNumberOn, sizesOn};
 ghost use Rattle.sealing.specs.Seal.{lengthOn, lengthCases, restCases, sealedAs, Seals};
 ghost use Rattle.sealing.specs.Internal.{headerOn, directoryOn, bodiesOn, frontOn, Lined, Measured, SealsRest, SealsUnder};
 
@@ -25,7 +25,7 @@ pub enum Sealed {
 // The archive number of a sheet, in four bytes.
 fn archive_number(sheet: &[u8]) -> [u8; 4]
     requires { ⌜ 5 ≤ length (now sheet) ⌝ }
-    ensures { λ r. ⌜ r ≡ numberOn (now (sheet .entry)) ⌝ }
+    ensures { λ r. ⌜ r ≡ archiveNumberOn (now (sheet .entry)) ⌝ }
 {
     let mut number = [0u8; 4];
     octets::copy(sheet::archive_number(sheet), &mut number);
@@ -35,7 +35,7 @@ fn archive_number(sheet: &[u8]) -> [u8; 4]
 // The job number on line i, in eight bytes.
 fn job_number(sheet: &[u8], i: usize) -> [u8; 8]
     requires { ⌜ i < lines (now sheet) ⌝ }
-    ensures { λ r. ⌜ r ≡ jobOn (now (sheet .entry)) i ⌝ }
+    ensures { λ r. ⌜ r ≡ jobNumberOn (now (sheet .entry)) i ⌝ }
 {
     let mut number = [0u8; 8];
     octets::copy(sheet::line(sheet, i), &mut number);

@@ -10,7 +10,7 @@ use native.Mathlib.Omega.{arith}
 use borrow.Author.Tests.{lt-ltb, le-ltb}
 use lib.ListN.{length, take, drop, length-take, length-drop}
 use lib.Seq.{length-take-le}
-use Rattle.sheet.specs.Sheet.{numberOn, lines, lineAt, jobOn, sizeOn, sizesOn}
+use Rattle.sheet.specs.Sheet.{archiveNumberOn, lines, lineAt, jobNumberOn, sizeOn, sizesOn}
 
 pub line-inside : (sheet : List ℕ) (i : ℕ) → i < lines sheet → lineAt sheet i ≡ take 12 (drop (5 + 12 * i) sheet)
 unfolding lineAt
@@ -23,8 +23,8 @@ line-none sheet i l = rw (le-ltb i (lines sheet) l)
 pub line-length : (sheet : List ℕ) (i : ℕ) → i < lines sheet → length (lineAt sheet i) ≡ 12
 line-length sheet i l = rw (line-inside sheet i l) (simp (length-take, length-drop) (omega arith))
 
-pub number-length : (sheet : List ℕ) → 5 ≤ length sheet → length (numberOn sheet) ≡ 4
-unfolding numberOn
+pub number-length : (sheet : List ℕ) → 5 ≤ length sheet → length (archiveNumberOn sheet) ≡ 4
+unfolding archiveNumberOn
 number-length sheet h = simp (length-take, length-drop) (omega arith)
 
 -- one line more
@@ -44,5 +44,5 @@ pub sizes-within : (sheet : List ℕ) (i : ℕ) → i < lines sheet → sizesOn 
 unfolding sizesOn
 sizes-within sheet i l = sizes-grow sheet (suc i) (lines sheet) l
 
-pub job-length : (sheet : List ℕ) (i : ℕ) → i < lines sheet → length (jobOn sheet i) ≡ 8
+pub job-length : (sheet : List ℕ) (i : ℕ) → i < lines sheet → length (jobNumberOn sheet i) ≡ 8
 job-length sheet i l = length-take-le 8 (lineAt sheet i) (omega (arith, line-length sheet i l))

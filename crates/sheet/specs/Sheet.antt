@@ -20,13 +20,13 @@ abbrev pub keySizeOn : List ℕ → ℕ
 keySizeOn sheet = keySizeOf (getD sheet 0 0)
 
 -- the archive number, as four bytes
-unfoldable pub numberOn : List ℕ → List ℕ
-numberOn sheet = take 4 (drop 1 sheet)
+unfoldable pub archiveNumberOn : List ℕ → List ℕ
+archiveNumberOn sheet = take 4 (drop 1 sheet)
 
 -- the contract of handing back the archive number: its bytes, as far as the sheet reaches, and its place. Of an empty sheet the part is
 -- empty and its place is left to the program
 pub record NumberPart (sheet r : RefT (List ℕ)) : Type 0 where
-  pub bytes : now r ≡ numberOn (now sheet)
+  pub bytes : now r ≡ archiveNumberOn (now sheet)
   pub place : 1 ≤ length (now sheet) → liesAt sheet 1 r
 
 -- how many whole lines there are
@@ -44,8 +44,8 @@ pub record LinePart (sheet : RefT (List ℕ)) (i : ℕ) (r : RefT (List ℕ)) : 
   pub place : i < lines (now sheet) → liesAt sheet (5 + 12 * i) r
 
 -- the job number on line i, as it stands there, and the length of the body
-abbrev pub jobOn : List ℕ → ℕ → List ℕ
-jobOn sheet i = take 8 (lineAt sheet i)
+abbrev pub jobNumberOn : List ℕ → ℕ → List ℕ
+jobNumberOn sheet i = take 8 (lineAt sheet i)
 
 abbrev pub sizeOn : List ℕ → ℕ → ℕ
 sizeOn sheet i = be32 (lineAt sheet i) 8

@@ -57,7 +57,7 @@ pub fn size(sheet: &[u8], i: usize) -> usize
     u32_at(line(sheet, i), 8)
 }
 
-// The lengths on the first n lines in all: at most 255, so that the sum always fits.
+// The lengths on the first n lines in all: of at most 255 lines, so that the sum always fits.
 pub fn sizes(sheet: &[u8], n: u8) -> usize
     ensures { λ r. ⌜ (r ≡ sizesOn (now (sheet .entry)) n) × (r < 1099511627776) ⌝ }
 {
@@ -155,7 +155,7 @@ pub fn lines_refusal(sheet: &[u8]) -> u32
 }
 
 // How many bytes of a sheet `seal` hands on, of which it has read the first `length`, 796 at most, and knows how many are beyond, by the
-// remainder modulo 12: all, or of a longer one so many that 21 and 9 come out as of the whole.
+// remainder modulo 12: all, or of a longer one so many that `seal` answers as on the whole.
 pub fn handed_on(length: usize, beyond: usize) -> usize
     ensures { λ r. ⌜ r ≡ handedOn length beyond ⌝ }
 {

@@ -10,7 +10,7 @@ use Rattle.blocks.specs.Blocks.{row}
 use Rattle.ctr.specs.Counter.{keystream, addStream}
 use Rattle.ctr.proofs.Applied.{ctr-done}
 use Rattle.opening.specs.Open.{prefixOf, underKeystream}
-use Rattle.sheet.specs.Sheet.{numberOn, lines, jobOn, sizesOn}
+use Rattle.sheet.specs.Sheet.{archiveNumberOn, lines, jobNumberOn, sizesOn}
 use Rattle.sheet.proofs.LineLaws.{sizes-next, sizes-within}
 use Rattle.sealing.specs.Internal.{bodyOn, bodiesOn}
 use Rattle.sealing.proofs.Written.{bodies-turn}
@@ -102,11 +102,11 @@ loop-again c =
     let ys : List ℕ = c .before .before .apply .last .1 .1 .1 .0 in
     let k : ℕ = at + sized .size .result - at in
     let prefix : List ℕ = c .before .before .before .before .prefix .result in
-    let named : prefix ≡ prefixOf (numberOn sheet) (jobOn sheet i) =
+    let named : prefix ≡ prefixOf (archiveNumberOn sheet) (jobNumberOn sheet i) =
     c .before .before .before .before .prefix .ensures
     ∙ ap₂ prefixOf (turn .before .before .archive-number .ensures) (c .before .before .before .before .before .job-number .ensures)
     in
-    let e : ys ≡ underKeystream (a .schedule) (numberOn sheet) (jobOn sheet i) (take k (drop at run)) =
+    let e : ys ≡ underKeystream (a .schedule) (archiveNumberOn sheet) (jobNumberOn sheet i) (take k (drop at run)) =
     c .before .before .apply .ensures .bytes
     ∙ ctr-done (a .schedule) prefix 0 (take k (drop at run)) (pre .0)
     ∙ ap (λ (p : List ℕ). addStream (keystream (a .schedule) p) 0 (take k (drop at run))) named

@@ -10,7 +10,7 @@ use Rattle.octets.proofs.Parts.{overwritten-whole}
 use Rattle.blocks.specs.Blocks.{row}
 use Rattle.blocks.proofs.Rows.{row-turn}
 use Rattle.codec.specs.Jobs.{entryOf}
-use Rattle.sheet.specs.Sheet.{lines, jobOn, sizesOn}
+use Rattle.sheet.specs.Sheet.{lines, jobNumberOn, sizesOn}
 use Rattle.sheet.proofs.LineLaws.{sizes-next, sizes-within}
 use Rattle.sealing.specs.Internal.{entryOn, directoryOn}
 use Rattle.sealing.proofs.Written.{entry-sixteen}
@@ -106,7 +106,7 @@ loop-again c =
     ∙ overwritten-whole (made .result) (take k (drop (16 * i) run)) (sixteen ∙ sym length-of)
     ∙ made .ensures
     ∙ ap₂ (λ (d : List ℕ) (m : ℕ). entryOf d m (sized .size .result)) (made-of .job-number .ensures) (l .inv .1)
-    ∙ ap (entryOf (jobOn sheet i) (a .from + sizesOn sheet i)) (size .0)
+    ∙ ap (entryOf (jobNumberOn sheet i) (a .from + sizesOn sheet i)) (size .0)
     in
     let left : List ℕ = drop (16 * i) (a .run .now) in
     let next : 16 * i + 16 ≡ 16 * (i + 1) = omega arith in
