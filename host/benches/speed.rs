@@ -1,5 +1,5 @@
-//! Speed of both engines, of CMAC and of libcrypto's ARIA, side by side, and of checking an archive
-//! and opening a job, with and without a tag: `cargo bench`.
+//! Speed of both engines, of CMAC and of libcrypto's ARIA, side by side, and of checking an archive,
+//! opening a job and sealing, with and without a tag: `cargo bench`.
 //!
 //! Block runs and CMAC are those of the package. Counter mode and the archive are not among its
 //! calls, so they come from a library for the bench and the tests alone, which
@@ -7,8 +7,9 @@
 //!
 //! Each figure is the best of several rounds, the engines taking turns within a round so that a slow
 //! spell of the machine meets all of them. Time is the thread's CPU time. Every call prepares its key,
-//! libcrypto's too. Keys are 16 bytes. Before a row is measured all must give the same bytes, and what
-//! is opened must be what was sealed. It asserts nothing about time.
+//! libcrypto's too. Keys are 16 bytes. Before a row is measured all must give the same bytes, what is
+//! opened must be what was sealed, and what is sealed the archive that libcrypto's bytes make. It
+//! asserts nothing about time.
 
 #[path = "../tests/support/libcrypto.rs"]
 mod libcrypto;
@@ -82,6 +83,20 @@ extern "C" {
         number_len: usize,
         first: usize,
         count: usize,
+        out: *mut u8,
+        out_len: usize,
+    ) -> u32;
+
+    /// The archive of a sheet's jobs into the front of a buffer: 0, or the refusal.
+    fn bench_seal(
+        key_file: *const u8,
+        key_file_len: usize,
+        tag_key: *const u8,
+        tag_key_len: usize,
+        sheet: *const u8,
+        sheet_len: usize,
+        plain: *const u8,
+        plain_len: usize,
         out: *mut u8,
         out_len: usize,
     ) -> u32;
@@ -257,45 +272,70 @@ fn tags(buffer: &mut [u8]) {
     }
 }
 
-/// How many jobs an archive has. The last is opened; the others have no bytes.
+/// How many jobs an archive has, but for one that is sealed of one job. Where one is opened, it is the
+/// last, and the others have no bytes.
 const JOBS: usize = 64;
-const NUMBER: [u8; 8] = *b"24000064";
 const ARCHIVE_NUMBER: [u8; 4] = [0, 0, 0, 7];
 /// How long a tag is.
 const TAG: usize = 16;
 /// The job's length: with its tag the archive is as long as one may be, 65,536 bytes.
 const JOB: usize = (64 << 10) - 20 - 16 * JOBS - TAG;
-/// The range of it: its last KiB.
+/// The length of an only job, likewise.
+const ONLY_JOB: usize = (64 << 10) - 20 - 16 - TAG;
+/// The range of the last of many that is opened: its last KiB.
 const RANGE: usize = 1 << 10;
 
-/// An archive, the plain bytes sealed by libcrypto; of layout 2 and tagged by it where there is a tag key.
-fn archive_of(plain: &[u8], tag_key: &[u8]) -> Vec<u8> {
+/// The number of a job, the first being 1.
+fn number(job: usize) -> Vec<u8> {
+    format!("240000{job:02}").into_bytes()
+}
+
+/// An archive of jobs of these lengths, their plain bytes end to end sealed by libcrypto; of layout 2
+/// and tagged by it where there is a tag key.
+fn archive_of(lengths: &[usize], plain: &[u8], tag_key: &[u8]) -> Vec<u8> {
     let mut check = [0xff; 16];
     run(Engine::Tables, &KEY, Direction::Forward, &mut check).expect("a block");
-    let mut body = plain.to_vec();
-    let mut first = [0; 16];
-    first[..4].copy_from_slice(&ARCHIVE_NUMBER);
-    first[4..12].copy_from_slice(&NUMBER);
-    Ctr::new(KEY.len()).run(&KEY, &first, &mut body);
 
-    let start = 20 + 16 * JOBS;
+    let front = 20 + 16 * lengths.len();
+    let mut directory = Vec::new();
+    let mut bodies = Vec::new();
+    for (index, &length) in lengths.iter().enumerate() {
+        let at = bodies.len();
+        let digits = number(index + 1);
+        let mut first = [0; 16];
+        first[..4].copy_from_slice(&ARCHIVE_NUMBER);
+        first[4..12].copy_from_slice(&digits);
+        let mut body = plain[at..at + length].to_vec();
+        Ctr::new(KEY.len()).run(&KEY, &first, &mut body);
+        directory.extend(digits);
+        directory.extend(((front + at) as u32).to_be_bytes());
+        directory.extend((length as u32).to_be_bytes());
+        bodies.extend(body);
+    }
+
     let (layout, tag_size) = if tag_key.is_empty() { (1, 0) } else { (2, TAG) };
-    let mut file = vec![layout, KEY.len() as u8, 0, JOBS as u8];
+    let mut file = vec![layout, KEY.len() as u8, 0, lengths.len() as u8];
     file.extend(ARCHIVE_NUMBER);
     file.extend(&check[..8]);
-    file.extend(((start + body.len() + tag_size) as u32).to_be_bytes());
-    for job in 1..=JOBS {
-        let length = if job == JOBS { body.len() } else { 0 };
-        file.extend(format!("240000{job:02}").into_bytes());
-        file.extend((start as u32).to_be_bytes());
-        file.extend((length as u32).to_be_bytes());
-    }
-    file.extend(body);
+    file.extend(((front + bodies.len() + tag_size) as u32).to_be_bytes());
+    file.extend(directory);
+    file.extend(bodies);
     if !tag_key.is_empty() {
         let tag = Cmac::new(tag_key.len()).tag(tag_key, &file);
         file.extend(tag);
     }
     file
+}
+
+/// The sheet of the jobs of such an archive.
+fn sheet_of(lengths: &[usize]) -> Vec<u8> {
+    let mut sheet = vec![KEY.len() as u8];
+    sheet.extend(ARCHIVE_NUMBER);
+    for (index, &length) in lengths.iter().enumerate() {
+        sheet.extend(number(index + 1));
+        sheet.extend((length as u32).to_be_bytes());
+    }
+    sheet
 }
 
 fn check(tag_key: &[u8], file: &[u8]) {
@@ -313,10 +353,10 @@ fn check(tag_key: &[u8], file: &[u8]) {
     assert_eq!(number, 0, "bench_check");
 }
 
-fn open(tag_key: &[u8], file: &[u8], out: &mut [u8]) {
+fn open(tag_key: &[u8], file: &[u8], number: &[u8], out: &mut [u8]) {
     // SAFETY: the slices are valid for their lengths, and a mutable borrow overlaps no other. The function
     // has no `requires`.
-    let number = unsafe {
+    let refusal = unsafe {
         bench_open(
             KEY.as_ptr(),
             KEY.len(),
@@ -324,19 +364,19 @@ fn open(tag_key: &[u8], file: &[u8], out: &mut [u8]) {
             tag_key.len(),
             file.as_ptr(),
             file.len(),
-            NUMBER.as_ptr(),
-            NUMBER.len(),
+            number.as_ptr(),
+            number.len(),
             out.as_mut_ptr(),
             out.len(),
         )
     };
-    assert_eq!(number, 0, "bench_open");
+    assert_eq!(refusal, 0, "bench_open");
 }
 
 /// As many bytes of the job, from byte `first` on, as the buffer holds.
-fn open_range(tag_key: &[u8], file: &[u8], first: usize, out: &mut [u8]) {
+fn open_range(tag_key: &[u8], file: &[u8], number: &[u8], first: usize, out: &mut [u8]) {
     // SAFETY: as in `open`.
-    let number = unsafe {
+    let refusal = unsafe {
         bench_open_range(
             KEY.as_ptr(),
             KEY.len(),
@@ -344,15 +384,34 @@ fn open_range(tag_key: &[u8], file: &[u8], first: usize, out: &mut [u8]) {
             tag_key.len(),
             file.as_ptr(),
             file.len(),
-            NUMBER.as_ptr(),
-            NUMBER.len(),
+            number.as_ptr(),
+            number.len(),
             first,
             out.len(),
             out.as_mut_ptr(),
             out.len(),
         )
     };
-    assert_eq!(number, 0, "bench_open_range");
+    assert_eq!(refusal, 0, "bench_open_range");
+}
+
+fn seal(tag_key: &[u8], sheet: &[u8], plain: &[u8], out: &mut [u8]) {
+    // SAFETY: as in `open`.
+    let refusal = unsafe {
+        bench_seal(
+            KEY.as_ptr(),
+            KEY.len(),
+            tag_key.as_ptr(),
+            tag_key.len(),
+            sheet.as_ptr(),
+            sheet.len(),
+            plain.as_ptr(),
+            plain.len(),
+            out.as_mut_ptr(),
+            out.len(),
+        )
+    };
+    assert_eq!(refusal, 0, "bench_seal");
 }
 
 /// Microseconds a call, over so many calls.
@@ -379,13 +438,17 @@ fn least<const N: usize>(mut works: [(usize, &mut dyn FnMut()); N]) -> [f64; N] 
 /// bytes that its tag is made of.
 fn openings(buffer: &mut [u8]) {
     let plain = &buffer[..JOB];
-    let archives = [&[], &TAG_KEY[..]].map(|tag_key| (tag_key, archive_of(plain, tag_key)));
+    let mut lengths = [0; JOBS];
+    lengths[JOBS - 1] = JOB;
+    let archives =
+        [&[], &TAG_KEY[..]].map(|tag_key| (tag_key, archive_of(&lengths, plain, tag_key)));
+    let job = number(JOBS);
     let mut opened = [0, 1].map(|_| (vec![0; JOB], vec![0; RANGE]));
     let first = JOB - RANGE;
     for ((tag_key, file), (whole, range)) in archives.iter().zip(&mut opened) {
-        open(tag_key, file, whole);
+        open(tag_key, file, &job, whole);
         assert_eq!(whole, plain, "another job than was sealed");
-        open_range(tag_key, file, first, range);
+        open_range(tag_key, file, &job, first, range);
         assert_eq!(range, &plain[first..], "another range than was sealed");
     }
 
@@ -394,11 +457,13 @@ fn openings(buffer: &mut [u8]) {
     let before_tag = &tagged[..tagged.len() - TAG];
     let best = least([
         (64, &mut || check(no_key, file)),
-        (64, &mut || open_range(no_key, file, first, range)),
-        (64, &mut || open(no_key, file, whole)),
+        (64, &mut || open_range(no_key, file, &job, first, range)),
+        (64, &mut || open(no_key, file, &job, whole)),
         (16, &mut || check(tag_key, tagged)),
-        (16, &mut || open_range(tag_key, tagged, first, tagged_range)),
-        (16, &mut || open(tag_key, tagged, tagged_whole)),
+        (16, &mut || {
+            open_range(tag_key, tagged, &job, first, tagged_range)
+        }),
+        (16, &mut || open(tag_key, tagged, &job, tagged_whole)),
         (16, &mut || {
             cmac(tag_key, before_tag).expect("a key of 16 bytes");
         }),
@@ -423,6 +488,85 @@ fn openings(buffer: &mut [u8]) {
     );
 }
 
+/// What sealing takes, and a buffer that the archive fills.
+struct Sealing<'a> {
+    tag_key: &'a [u8],
+    sheet: Vec<u8>,
+    plain: &'a [u8],
+    out: Vec<u8>,
+}
+
+impl<'a> Sealing<'a> {
+    /// Jobs of these lengths, sealed once and found to be the archive of libcrypto's bytes.
+    fn of(lengths: &[usize], tag_key: &'a [u8], bytes: &'a [u8]) -> Self {
+        let plain = &bytes[..lengths.iter().sum()];
+        let file = archive_of(lengths, plain, tag_key);
+        let mut sealing = Self {
+            tag_key,
+            sheet: sheet_of(lengths),
+            plain,
+            out: vec![0; file.len()],
+        };
+        sealing.seal();
+        assert_eq!(
+            sealing.out, file,
+            "another archive than of libcrypto's bytes"
+        );
+        sealing
+    }
+
+    fn seal(&mut self) {
+        seal(self.tag_key, &self.sheet, self.plain, &mut self.out);
+    }
+}
+
+/// Archives of one job and of jobs of about equal lengths sealed, without a tag and with it, and those of
+/// one job opened.
+fn sealings(buffer: &[u8]) {
+    let one = [ONLY_JOB];
+    let mut many = [JOB / JOBS; JOBS];
+    many[JOBS - 1] += JOB % JOBS;
+    let [mut one_job, mut tagged_one] = [&[], &TAG_KEY[..]].map(|k| Sealing::of(&one, k, buffer));
+    let [mut jobs, mut tagged_jobs] = [&[], &TAG_KEY[..]].map(|k| Sealing::of(&many, k, buffer));
+    let [file, tagged] = [&one_job, &tagged_one].map(|sealing| sealing.out.clone());
+    let job = number(1);
+    let [mut opened, mut tagged_opened] =
+        [(&[][..], &file), (&TAG_KEY, &tagged)].map(|(k, file)| {
+            let mut out = vec![0; ONLY_JOB];
+            open(k, file, &job, &mut out);
+            assert_eq!(out, buffer[..ONLY_JOB], "another job than was sealed");
+            out
+        });
+    let best = least([
+        (64, &mut || one_job.seal()),
+        (64, &mut || open(&[], &file, &job, &mut opened)),
+        (64, &mut || jobs.seal()),
+        (16, &mut || tagged_one.seal()),
+        (16, &mut || {
+            open(&TAG_KEY, &tagged, &job, &mut tagged_opened)
+        }),
+        (16, &mut || tagged_jobs.seal()),
+    ]);
+
+    println!("archives that with a tag have 64 KiB, microseconds a call");
+    let rows = [
+        &format!("sealing one job of {ONLY_JOB} bytes"),
+        "opening it, with the check",
+        &format!("sealing {JOBS} jobs of {JOB} bytes in all"),
+        "tagged: sealing that one job",
+        "tagged: opening it, with the check",
+        "tagged: sealing those jobs",
+    ];
+    for (row, figure) in rows.iter().zip(best) {
+        println!("{row:<56} {figure:>8.1}");
+    }
+    println!(
+        "sealing one job, in times of opening it, and tagged {:>8.2} {:>8.2}",
+        best[0] / best[1],
+        best[3] / best[4]
+    );
+}
+
 fn main() {
     // Filled before the clock runs, so that no page is touched first inside a measurement.
     let mut buffer: Vec<u8> = (0..1 << 20).map(|i: u32| (i % 251) as u8).collect();
@@ -442,4 +586,5 @@ fn main() {
     counter_runs(&mut buffer);
     tags(&mut buffer);
     openings(&mut buffer);
+    sealings(&buffer);
 }

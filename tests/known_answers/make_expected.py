@@ -20,8 +20,13 @@ shown whole, and had FILL everywhere before. Then a line a range,
 
 where the calls with buffers of one length have one buffer in turn. Then what checking answers of the
 tagged sample, examples/tagged, and of the other under tag keys, and with bits changed, and the same
-calls on the tagged sample. Then a line a search of bare
-contents, in which FILL stands for what a search does not look at,
+calls on the tagged sample. Then a line a call that seals the jobs of the samples,
+
+    seal, CASE in N bytes: bytes M, buffer HEX
+
+or `refused R`. The buffer is shown whole again, and no call before has altered it. The archives are
+the samples. Then a line a search of bare contents, in which FILL stands for what a search does not
+look at,
 
     search 'NUMBER' in 'CONTENTS': index I
 
@@ -48,6 +53,9 @@ KEY = bytes(range(16))
 NO_TAG_KEY = b""
 FILL = b"."
 BLOCK = bytes(0x11 * i for i in range(16))
+SHEET = bytes([16, 0, 0, 0, 7]) + b"24000017" + bytes([0, 0, 0, 5]) + b"24000018" + bytes(4)
+PLAIN = b"dried"
+ROOM = 60
 
 
 # The number asked for, the numbers of the contents, and how many bytes are cut off their end.
@@ -193,6 +201,53 @@ def ranges(tag_key, file):
         yield "open %s from %d, count %d, in %d bytes" % (number.decode(), first, count, room), given
 
 
+def sheet_with(at, new):
+    return SHEET[:at] + new + SHEET[at + len(new) :]
+
+
+def refused_seals(tag_key):
+    """The case, the key file, the tag key, the sheet and the plain bytes of calls that are refused whatever the buffer."""
+    yield "28 bytes of sheet", KEY, NO_TAG_KEY, SHEET[:-1], PLAIN
+    yield "key length 17", KEY, NO_TAG_KEY, sheet_with(0, bytes([17])), PLAIN
+    # the sample's 57 bytes and those of the second job
+    yield "65537 bytes of archive", KEY, NO_TAG_KEY, sheet_with(25, (65537 - 57).to_bytes(4, "big")), PLAIN
+    yield "15 bytes of key file", KEY[:-1], NO_TAG_KEY, SHEET, PLAIN
+    yield "33 bytes of tag key", KEY, tag_key + b"\x30", SHEET, PLAIN
+    yield "65 lines", KEY, NO_TAG_KEY, SHEET[:5] + b"0" * 12 * 65, PLAIN
+    yield "64 lines of one number", KEY, NO_TAG_KEY, SHEET[:5] + b"0" * 12 * 64, PLAIN
+    yield "number 2400001/", KEY, NO_TAG_KEY, sheet_with(12, b"/"), PLAIN
+    yield "24000019 before 24000018", KEY, NO_TAG_KEY, sheet_with(12, b"9"), PLAIN
+    yield "4 plain bytes", KEY, NO_TAG_KEY, SHEET, PLAIN[:-1]
+    yield "6 plain bytes", KEY, NO_TAG_KEY, SHEET, PLAIN + FILL
+
+
+def sealed(case, key_file, tag_key, sheet, plain, room):
+    """The call as it is printed, what it answers and leaves of a buffer of FILL, and the archive; of a refusal none."""
+    call = "seal, %s in %d bytes" % (case, room)
+    try:
+        file = archive.seal(key_file, tag_key, sheet, plain, room)
+    except archive.Refused as refused:
+        return call, "refused %d, buffer %s" % (refused.number, (FILL * room).hex()), b""
+    return call, "bytes %d, buffer %s" % (len(file), file.ljust(room, FILL).hex()), file
+
+
+def seals():
+    tag_key = example("tagged/tag.bin")
+    for arguments in refused_seals(tag_key):
+        call, given, file = sealed(*arguments, ROOM)
+        assert not file
+        yield call, given
+    made = []
+    for case, tag, short, room in (("sample", NO_TAG_KEY, 56, ROOM), ("tagged sample", tag_key, 72, 74)):
+        for length in (short, room):
+            call, given, file = sealed("the " + case, KEY, tag, SHEET, PLAIN, length)
+            made.append(file)
+            yield call, given
+    call, given, file = sealed("key length 0", KEY + FILL, NO_TAG_KEY, sheet_with(0, bytes(1)), PLAIN, ROOM)
+    yield call, given
+    assert [*made, file] == [b"", sample(), b"", example("tagged/archive.bin"), sample()]
+
+
 def searches():
     for number, numbers, cut in SEARCHES:
         entries = b"".join(digits.ljust(archive.ENTRY, FILL) for digits in numbers)
@@ -236,7 +291,7 @@ if __name__ == "__main__":
     for call, given in (*calls(NO_TAG_KEY, sample()), *ranges(NO_TAG_KEY, sample()), *tagged_cases()):
         print("%s: %s" % (call, given))
     tagged = example("tagged/tag.bin"), example("tagged/archive.bin")
-    for call, given in (*calls(*tagged), *ranges(*tagged)):
+    for call, given in (*calls(*tagged), *ranges(*tagged), *seals()):
         print("%s: %s" % (call, given))
     for call, given in searches():
         print("%s: %s" % (call, given))

@@ -2,9 +2,10 @@
 // checking, under a good key, each good but for what its line names. Prints what checking answered. Then makes each other call of `archive`
 // and `opening` on the sample archive, for jobs that are there and for one that is not, and opens once more into a buffer that is a byte
 // short; and opens ranges, on both sides of the job's end and of the buffer's. Then checks the tagged sample and the other under tag keys
-// that fit and that do not, and the tagged one with a bit changed, and makes the same calls on it. Then searches bare directories, also
-// such as no archive has. Then runs the block of RFC 5794, A.1, by each engine as `roundtrip::run_by` picks it. Then tags the front of the
-// sample archive, and compares tags, under the key and under schedules.
+// that fit and that do not, and the tagged one with a bit changed, and makes the same calls on it. Then seals, refused by each case, and
+// the jobs of the samples, which gives both archives again. Then searches bare directories, also such as no archive has. Then runs the
+// block of RFC 5794, A.1, by each engine as `roundtrip::run_by` picks it. Then tags the front of the sample archive, and compares tags,
+// under the key and under schedules.
 // tests/known_answers/make_expected.py makes the stored output from the model of the archive and from libcrypto. The readings marked P are
 // the one theorem of proofs/Readings.
 use archive::Checked;
@@ -16,6 +17,7 @@ use expansion::Outcome;
 use libc::STDOUT_FILENO;
 use opening::Opened;
 use roundtrip::Engine;
+use sealing::Sealed;
 
 // The key of RFC 5794, A.1.
 const KEY: [u8; 16] = [0, 1, 2, 3, 4, 5, 6, 7, 8, 9, 10, 11, 12, 13, 14, 15];
@@ -371,6 +373,186 @@ fn tagged_sample(key: &[u8], untagged: &[u8]) {
     sample_calls(key, tag_key, &file);
 }
 
+// A line: the case, the buffer's length, what sealing answers, and the buffer whole.
+fn print_sealed(
+    case: &[u8],
+    key_file: &[u8],
+    tag_key: &[u8],
+    sheet: &[u8],
+    plain: &[u8],
+    buffer: &mut [u8],
+) {
+    print(case);
+    print_number(b" in ", buffer.len() as u64);
+    let sealed = sealing::seal(key_file, tag_key, sheet, plain, buffer);
+    match sealed {
+        Sealed::Bytes(n) => print_number(b" bytes: bytes ", n as u64),
+        Sealed::Refused(n) => print_number(b" bytes: refused ", n as u64),
+    }
+    print_line(b", buffer ", buffer);
+}
+
+// The sheet of both samples.
+fn sample_sheet() -> [u8; 29] {
+    let mut sheet = [0u8; 29];
+    octets::put(&mut sheet, 0, b"\x10\x00\x00\x00\x07");
+    octets::put(&mut sheet, 5, b"24000017\x00\x00\x00\x05");
+    octets::put(&mut sheet, 17, b"24000018\x00\x00\x00\x00");
+    sheet
+}
+
+// That sheet with other bytes at a place.
+fn sheet_with(at: usize, bytes: &[u8]) -> [u8; 29] {
+    let mut sheet = sample_sheet();
+    octets::put(&mut sheet, at, bytes);
+    sheet
+}
+
+// Lines of one number, 65 of them and 64.
+fn seal_equal_lines(key: &[u8], buffer: &mut [u8]) {
+    let mut sheet = [b'0'; 785];
+    let front = sample_sheet();
+    octets::put(&mut sheet, 0, octets::part(&front, 0, 5));
+    print_sealed(b"seal, 65 lines", key, b"", &sheet, b"dried", buffer);
+    print_sealed(
+        b"seal, 64 lines of one number",
+        key,
+        b"",
+        octets::part(&sheet, 0, 773),
+        b"dried",
+        buffer,
+    );
+}
+
+// A number with a byte that is no digit, and one that is above the next.
+fn seal_lines(key: &[u8], buffer: &mut [u8]) {
+    let number = sheet_with(12, b"/");
+    print_sealed(
+        b"seal, number 2400001/",
+        key,
+        b"",
+        &number,
+        b"dried",
+        buffer,
+    );
+    let order = sheet_with(12, b"9");
+    print_sealed(
+        b"seal, 24000019 before 24000018",
+        key,
+        b"",
+        &order,
+        b"dried",
+        buffer,
+    );
+}
+
+// Sheets of a wrong length, with a wrong key length, and for an archive that is a byte too long.
+fn seal_sheets(key: &[u8], buffer: &mut [u8]) {
+    let sheet = sample_sheet();
+    print_sealed(
+        b"seal, 28 bytes of sheet",
+        key,
+        b"",
+        octets::part(&sheet, 0, 28),
+        b"dried",
+        buffer,
+    );
+    let length = sheet_with(0, b"\x11");
+    print_sealed(b"seal, key length 17", key, b"", &length, b"dried", buffer);
+    let long = sheet_with(25, b"\x00\x00\xff\xc8");
+    print_sealed(
+        b"seal, 65537 bytes of archive",
+        key,
+        b"",
+        &long,
+        b"dried",
+        buffer,
+    );
+}
+
+// Keys that are refused: too few bytes for the sheet's length, and a tag key of a wrong length.
+fn seal_keys(key: &[u8], tag_key: &[u8], buffer: &mut [u8]) {
+    let sheet = sample_sheet();
+    print_sealed(
+        b"seal, 15 bytes of key file",
+        octets::part(key, 0, 15),
+        b"",
+        &sheet,
+        b"dried",
+        buffer,
+    );
+    print_sealed(
+        b"seal, 33 bytes of tag key",
+        key,
+        tag_key,
+        &sheet,
+        b"dried",
+        buffer,
+    );
+}
+
+// Plain bytes too few and too many.
+fn seal_plains(key: &[u8], buffer: &mut [u8]) {
+    let sheet = sample_sheet();
+    print_sealed(b"seal, 4 plain bytes", key, b"", &sheet, b"drie", buffer);
+    print_sealed(b"seal, 6 plain bytes", key, b"", &sheet, b"dried.", buffer);
+}
+
+// The samples, each in a buffer that is a byte short and keeps what it had, and in one that has room.
+fn seal_samples(key: &[u8], tag_key: &[u8], buffer: &mut [u8]) {
+    let sheet = sample_sheet();
+    let mut short = [b'.'; 56];
+    print_sealed(b"seal, the sample", key, b"", &sheet, b"dried", &mut short);
+    print_sealed(b"seal, the sample", key, b"", &sheet, b"dried", buffer);
+    let mut tagged_short = [b'.'; 72];
+    print_sealed(
+        b"seal, the tagged sample",
+        key,
+        tag_key,
+        &sheet,
+        b"dried",
+        &mut tagged_short,
+    );
+    let mut tagged = [b'.'; 74];
+    print_sealed(
+        b"seal, the tagged sample",
+        key,
+        tag_key,
+        &sheet,
+        b"dried",
+        &mut tagged,
+    );
+}
+
+// Key length 0, which means 16, and a key file that has more bytes than the key.
+fn seal_short_key(key: &[u8]) {
+    let sheet = sheet_with(0, b"\x00");
+    let mut file = [b'.'; 17];
+    octets::put(&mut file, 0, key);
+    let mut buffer = [b'.'; 60];
+    print_sealed(
+        b"seal, key length 0",
+        &file,
+        b"",
+        &sheet,
+        b"dried",
+        &mut buffer,
+    );
+}
+
+// The calls of `sealing`. The refused ones have one buffer in turn, with room for the sample, which is sealed into it then.
+fn sample_seals(key: &[u8]) {
+    let bytes = tag_bytes();
+    let mut buffer = [b'.'; 60];
+    seal_sheets(key, &mut buffer);
+    seal_keys(key, &bytes, &mut buffer);
+    seal_equal_lines(key, &mut buffer);
+    seal_lines(key, &mut buffer);
+    seal_plains(key, &mut buffer);
+    seal_samples(key, octets::part(&bytes, 0, 32), &mut buffer);
+    seal_short_key(key);
+}
+
 // A line: the number, the bare directory, and what a search of it answers. Of an entry a search looks at the number only.
 fn print_search(number: &[u8], directory: &[u8]) {
     print(b"search '");
@@ -591,6 +773,7 @@ fn main() {
     let file = sample_file();
     sample_calls(&key, b"", &file);
     tagged_sample(&key, &file);
+    sample_seals(&key);
     search_absent();
     search_passed();
     search_unordered();
