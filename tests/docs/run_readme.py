@@ -85,15 +85,16 @@ def made_faults(scratch):
 
 def sealing_recipe(command, scratch):
     """Keeps an archive, and nothing that is none: what is refused, what could not be read or written, what was broken off."""
-    folder, call = os.path.join(TOP, "target", "trial"), "| ../bin/seal "
+    folder, call = os.path.join(TOP, "target", "trial"), "../bin/seal < plain.bin "
     kept = read(os.path.join(folder, "archive.bin"), "rb")
-    full = "| LD_PRELOAD=%s FAULT='write 1 30 %d 1' ../bin/seal " % (shlex.quote(made_faults(scratch)), errno.ENOSPC)
+    full = "LD_PRELOAD=%s FAULT='write 1 30 %d 1' %s" % (shlex.quote(made_faults(scratch)), errno.ENOSPC, call)
     for old, new, said in (
         ("in 26000001 26000002", "in 26000002 26000001", "refused 14\n"),
-        ("cat 26000001.bin 26000002.bin", "cat 26000001.bin", "refused 16\n"),
-        (call, "| ../bin/seal < . ", "not sealed: seal: could not read\n"),
+        (": > plain.bin", "printf x > plain.bin", "refused 17\n"),
+        ("printf warm > 26000002.bin", "rm -f 26000002.bin", "cat: 26000002.bin: No such file or directory\n"),
+        (call, "../bin/seal < . ", "not sealed: seal: could not read\n"),
         (call, full, "not sealed: seal: could not write\n"),
-        (call, "| sh -c 'printf \\002; kill -9 $$' ", "not sealed: ended badly: \n"),
+        (call, "sh -c 'printf \\002; kill -9 $$' ", "not sealed: ended badly: \n"),
     ):
         if command.count(old) != 1:
             sys.exit("README.md: the recipe of `seal` is not as this check knows it: %s" % old)

@@ -1,6 +1,6 @@
 // Seals the jobs of sheet.bin into an archive: their plain bytes end to end on standard input, under the key that key.bin begins with and
-// the tag key in tag.bin. Standard output has the archive or the line of a refusal, and else nothing: what goes wrong outside is said on
-// standard error, and then there is no archive.
+// the tag key in tag.bin. Standard output has the archive or the line of a refusal: what goes wrong outside is said on standard error, and
+// then there is no archive; where writing failed, what went out is none.
 use libc::STDERR_FILENO;
 use libc::STDIN_FILENO;
 use libc::STDOUT_FILENO;
