@@ -4,9 +4,9 @@
 
 The calls are those of library.py. Of each the number is compared, and every byte of the buffer: the archive at its front, what it held
 behind that, and all that it held where sealing is refused. Buffers are of the archive's length, of a byte less, longer, and of no bytes.
-Each archive of the model that is accepted is sealed again from its own jobs. What was sealed is checked and opened, job by job. The length
-that sealing answers these calls do not tell; the program `seal` shows it. The last line is `archive sealing: N calls agree`, or the first
-call that differs, and then the exit status is 1.
+Each archive of the model that is accepted and not random is sealed again from its own jobs. What was sealed is checked and opened, job
+by job. The length that sealing answers these calls do not tell; the program `seal` shows it. The last line is `archive sealing: N calls
+agree`, or the first call that differs, and then the exit status is 1.
 """
 
 import sys

@@ -68,8 +68,8 @@ underKeyCases s keysize tagKey file = underKeyCasesBy orderOf s keysize tagKey f
 abbrev pub checkCases : List ℕ → List ℕ → List ℕ → List Case
 checkCases key tagKey file = checkCasesBy orderOf key tagKey file
 
--- the contract of admission, with which every call on an archive begins: the number of the first case, 0 for none, and the key's schedule;
--- of a refused key, no rounds and zero keys, which `scheduleOf` then is
+-- the contract of admission, with which every call that reads an archive begins: the number of the first case, 0 for none, and the key's
+-- schedule; of a refused key, no rounds and zero keys, which `scheduleOf` then is
 pub record Admits (key tagKey file : List ℕ) (r : Admitted) : Type 0 where
   pub number : r .number ≡ firstOf (checkCases key tagKey file)
   pub schedule : r .schedule ≡ scheduleOf key

@@ -1,4 +1,4 @@
-// Admission: the whole check of an archive under a key and a tag key, with which every call on an archive begins, and the key check, by
+// Admission: the whole check of an archive under a key and a tag key, with which every call that reads one begins, and the key check, by
 // which it tells the key. Each key is prepared once.
 use circuit::Schedule;
 use expansion::Outcome;
