@@ -63,8 +63,17 @@ module _ (s : Schedule) (archive : List ℕ) where
   sealed-ascending order (more {j = j} above r) =
       more (sealed-each (λ n. order (j .number) < order n) above) (sealed-ascending order r)
 
--- ---- the jobs of a sheet whose lengths are those of the plain bytes
+-- ---- the jobs of a sheet
 
+-- where bodies start, of jobs that have the sizes of the lines
+pub sums : (sheet : List ℕ) (from : ℕ) (ks : List Job) → length ks ≡ lines sheet
+    → ((i : ℕ) → i < lines sheet → length (jobIn ks i .body) ≡ sizeOn sheet i)
+    → (i : ℕ) → i ≤ lines sheet → startAt from ks i ≡ from + sizesOn sheet i
+unfolding sizesOn
+sums sheet from ks n h zero l = start-first from ks ∙ omega arith
+sums sheet from ks n h (suc i) l = omega (arith, start-next from ks i (omega arith), sums sheet from ks n h i (omega arith), h i l)
+
+-- with their plain bodies, where the lengths are those of the plain bytes
 module _ (sheet plain : List ℕ) where
   abbrev js : List Job
   js = jobsOn sheet plain
@@ -90,10 +99,7 @@ module _ (sheet plain : List ℕ) where
     body-size i l = ap (λ (j : Job). length (j .body)) (job-at i l) ∙ plain-length i l
 
     pub starts : (i : ℕ) → i ≤ lines sheet → sizesOn sheet i ≡ startAt 0 js i
-    unfolding sizesOn
-    starts zero l = sym (start-first 0 js)
-    starts (suc i) l =
-        ap₂ (λ (m n : ℕ). m + n) (starts i (omega arith)) (sym (body-size i l)) ∙ sym (start-next 0 js i (omega (arith, jobs-length)))
+    starts i l = omega (arith, sums sheet 0 js jobs-length body-size i l)
 
     pub bodies-length : length (bodiesIn js) ≡ length plain
     bodies-length = omega (arith, starts (lines sheet) (omega arith), start-end 0 js, ap (startAt 0 js) jobs-length, exact)

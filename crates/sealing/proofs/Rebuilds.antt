@@ -3,7 +3,7 @@
 use mathlib.Core.Path.{_≡_, refl, sym, ap, ap₂, _∙_}
 use mathlib.Core.Bool.{true}
 use mathlib.Core.List.{List, [], _++_, append-nil}
-use Prim.Native.Nat.{ℕ, zero, suc, _+_, _*_, _-_, _<_, _≤_}
+use Prim.Native.Nat.{ℕ, _+_, _*_, _-_, _<_, _≤_}
 use native.Mathlib.Omega.{arith}
 use lib.ListN.{length, getD, take, drop, length-append, length-take}
 use lib.Seq.{take-at, drop-at, drop-drop}
@@ -32,7 +32,7 @@ use Rattle.archive.specs.Find.{findCases}
 use Rattle.archive.proofs.Finding.{find-bearer}
 use Rattle.codec.specs.Jobs.{Job, noJob, bodiesIn, jobIn, startAt}
 use Rattle.codec.specs.Archive.{jobsOf, wholeLength, archiveOf, Fine}
-use Rattle.codec.proofs.JobLaws.{each-at, bodies-within, start-first, start-next, start-end, body-in, bodies-row}
+use Rattle.codec.proofs.JobLaws.{each-at, bodies-within, start-end, body-in, bodies-row}
 use Rattle.codec.proofs.Numbering.{job-eight, rows-numeric, rows-ascend}
 use Rattle.codec.proofs.Laid.{Laid}
 use Rattle.codec.proofs.Rebuilt.{accepted-fine, accepted-laid, whole-length, rebuilt}
@@ -44,7 +44,7 @@ use Rattle.sheet.proofs.Cases.{key-length-good}
 use Rattle.sealing.specs.Seal.{keyOn, plainOn, jobsOn, sealJobs, sealedFile, lengthOn}
 use Rattle.sealing.specs.Rebuilds.{lineOf, sheetOf, plainsOf, SealRebuilds}
 use Rattle.sealing.proofs.Cases.{SealGood, seal-none}
-use Rattle.sealing.proofs.Jobs.{sealed-twice, sealed-length, sealed-at, sealed-bodies}
+use Rattle.sealing.proofs.Jobs.{sums, sealed-twice, sealed-length, sealed-at, sealed-bodies}
 
 module _ (key tagKey file : List ℕ) (n : ℕ) (e : checkOf key tagKey file ≡ gives n) (k : ℕ) (means : keySizeOf k ≡ length key) where
   abbrev name : List ℕ
@@ -146,10 +146,9 @@ module _ (key tagKey file : List ℕ) (n : ℕ) (e : checkOf key tagKey file ≡
       ∙ laid .size i l
 
   sizes-on : (i : ℕ) → i ≤ length js → sizesOn sheet i ≡ startAt 0 js i
-  unfolding sizesOn
-  sizes-on zero l = sym (start-first 0 js)
-  sizes-on (suc i) l =
-      ap₂ (λ (x y : ℕ). x + y) (sizes-on i (omega arith)) (size-on i l) ∙ sym (start-next 0 js i l)
+  sizes-on i l =
+      let m : i ≤ lines sheet = omega (arith, count) in
+      omega (arith, sums sheet 0 js (sym count) (λ k n. sym (size-on k (omega (arith, count)))) i m)
 
   all-sizes : sizesOn sheet (lines sheet) ≡ length (bodiesIn js)
   all-sizes = ap (sizesOn sheet) count ∙ sizes-on (length js) (omega arith) ∙ start-end 0 js ∙ omega arith
@@ -186,11 +185,10 @@ module _ (key tagKey file : List ℕ) (n : ℕ) (e : checkOf key tagKey file ≡
       ∙ ap (λ (j : Job). length (j .body)) (sym (sealed-at (scheduleOf key) name js i l))
 
   plain-start : (i : ℕ) → i ≤ length js → sizesOn sheet i ≡ startAt 0 ps i
-  unfolding sizesOn
-  plain-start zero l = sym (start-first 0 ps)
-  plain-start (suc i) l =
-      ap₂ (λ (x y : ℕ). x + y) (plain-start i (omega arith)) (plain-size i l)
-      ∙ sym (start-next 0 ps i (omega (arith, sealed-length (scheduleOf key) name js)))
+  plain-start i l =
+      let m : i ≤ lines sheet = omega (arith, count) in
+      let all = sealed-length (scheduleOf key) name js ∙ sym count in
+      omega (arith, sums sheet 0 ps all (λ k n. sym (plain-size k (omega (arith, count)))) i m)
 
   jobs : jobsOn sheet plain ≡ ps
   unfolding jobsOn

@@ -14,14 +14,14 @@ use Rattle.header.specs.Fields.{layoutUnder}
 use Rattle.admission.specs.Check.{keyCheck, tagBytes}
 use Rattle.codec.specs.Jobs.{Job, entryOf, directoryFrom, bodiesIn, jobIn, startAt}
 use Rattle.codec.specs.Archive.{wholeLength, headerOf, frontOf, archiveOf}
-use Rattle.codec.proofs.JobLaws.{start-first, start-next, directory-row, bodies-row}
+use Rattle.codec.proofs.JobLaws.{directory-row, bodies-row}
 use Rattle.opening.specs.Open.{underKeystream}
 use Rattle.opening.proofs.Xor.{opening-xors}
 use Rattle.sheet.specs.Sheet.{keySizeOn, archiveNumberOn, lines, jobNumberOn, sizeOn, sizesOn}
 use Rattle.sheet.proofs.LineLaws.{job-length}
 use Rattle.sealing.specs.Seal.{keyOn, plainOn, jobsOn, sealJob, sealJobs, sealedFile, lengthOn}
 use Rattle.sealing.specs.Internal.{headerOn, entryOn, directoryOn, bodyOn, bodiesOn, frontOn}
-use Rattle.sealing.proofs.Jobs.{sealed-length, sealed-at, sealed-bodies, jobs-length, job-at, plain-length, bodies-length}
+use Rattle.sealing.proofs.Jobs.{sums, sealed-length, sealed-at, sealed-bodies, jobs-length, job-at, plain-length, bodies-length}
 
 -- ---- piece by piece
 
@@ -81,14 +81,6 @@ module _ (s : Schedule) (sheet plain : List ℕ) (exact : sizesOn sheet (lines s
       ∙ sym (append-assoc done (sealed i) (drop (sizesOn sheet i + sizeOn sheet i) plain))
 
 -- ---- the pieces and the jobs
-
--- where bodies start, of jobs that have the sizes of the lines
-sums : (sheet : List ℕ) (from : ℕ) (ks : List Job) → length ks ≡ lines sheet
-    → ((i : ℕ) → i < lines sheet → length (jobIn ks i .body) ≡ sizeOn sheet i)
-    → (i : ℕ) → i ≤ lines sheet → startAt from ks i ≡ from + sizesOn sheet i
-unfolding sizesOn
-sums sheet from ks n h zero l = start-first from ks ∙ omega arith
-sums sheet from ks n h (suc i) l = omega (arith, start-next from ks i (omega arith), sums sheet from ks n h i (omega arith), h i l)
 
 module _ (s : Schedule) (sheet plain : List ℕ) (exact : sizesOn sheet (lines sheet) ≡ length plain) where
   abbrev ks : List Job
