@@ -73,7 +73,8 @@ WRITING_SAYS = [
     "And a file that a reader accepts is what a writer makes, under the same keys, of its own jobs:",
     "of the sheet with its key length, its archive number and, entry by entry, job number and length,",
     "and of the plain bytes that its jobs open to.",
-    "Each column, from top to bottom, is one of the two archives worked above, and a sheet with `00` for its first byte makes both too.",
+    "Each column, from top to bottom, is one of the two archives worked above.",
+    "A sheet with `00` or `20` for its first byte is refused under this key, with 1, for it asks for 32 bytes of key.",
 ]
 # Sentences of rules that the cipher, the reader or the writer below follows without reading them off the page: they must stand there as
 # they are.
@@ -979,6 +980,8 @@ class Writer:
         self.reader = Reader(page, encrypt)
         self.front = fields(page.section(SHEET), "position")
         self.line = fields(page.section(SHEET), "position in the line")
+        # the length of the key that 0 on a sheet means
+        self.key_length_0 = int(re.search("; 0 means ([0-9]+) ", page.section(SHEET).text)[1])
         turns = "^Then for each line in turn, both of its checks before the next line:$|^Then:$"
         parts = re.split(turns, page.section(WRITER).text, flags=re.M)
         self.first, self.by_entry, self.then = [Page(part).table("number", "refused because") for part in parts]
@@ -1000,7 +1003,7 @@ class Sealing(Checked):
         return self.sheet[at : at + size]
 
     def key_length(self):
-        return self.field("length of the key in bytes")[0] or 16
+        return self.field("length of the key in bytes")[0] or self.writer.key_length_0
 
     def jobs(self):
         return (len(self.sheet) - 5) // 12
@@ -1059,7 +1062,7 @@ class Sealing(Checked):
 # The writer's way to what is written in a field, by the words that must stand on the page.
 WRITTEN = {
     "2 where a tag key is given, 1 where none is": lambda a, name: 2 if a.tag_key else 1,
-    "16 where the sheet has 0, else as on the sheet; so never 0": lambda a, name: a.key_length(),
+    "32 where the sheet has 0, else as on the sheet; so never 0": lambda a, name: a.field(name)[0] or 32,
     "how many lines the sheet has": lambda a, name: a.jobs(),
     "as on the sheet": lambda a, name: a.field(name),
     "the first eight bytes of E(sixteen bytes `ff`)": lambda a, name: a.writer.reader.encrypt(a.key(), b"\xff" * 16)[:8],
@@ -1138,7 +1141,7 @@ def faults_of_sealing(page):
 def faults_of_sealed(writer, key_file, tag_key, sheet, plain, buffer, after):
     """What was written is accepted under the key as it was cut, and opens to the plain bytes; the buffer has its other bytes."""
     length = int.from_bytes(after[16:20], "big")
-    file, key = after[:length], key_file[: sheet[0] or 16]
+    file, key = after[:length], key_file[: sheet[0] or 32]
     if Reading(writer.reader, key, tag_key, file).refusal() or after[length:] != buffer[length:] or file[1] != len(key):
         yield "what is written of the sheet %s is not read again" % sheet.hex()
     elif (own_sheet(writer.reader, key, tag_key, file), opened_whole(writer.reader, key, tag_key, file)) != (
@@ -1184,12 +1187,14 @@ def faults_of_sealed_samples(page, writer):
     by_page = Writer(page, Aria(page).encrypted)
     for folder in ("sample", "tagged"):
         (key, tag_key, file), (sheet, plain) = sample(folder), to_seal(folder)
-        for first in (sheet, b"\0" + sheet[1:]):
-            for key_file in (key, key + b"\n", key + key):
-                if Sealing(by_page, key_file, tag_key, first, plain, b"").sealed() != (20, b""):
-                    yield "a buffer of no bytes is not refused"
-                if Sealing(by_page, key_file, tag_key, first, plain, bytes(len(file))).sealed() != (0, file):
-                    yield "by the page's steps examples/%s does not come out of its sheet" % folder
+        for key_file in (key, key + b"\n", key + key):
+            if Sealing(by_page, key_file, tag_key, sheet, plain, b"").sealed() != (20, b""):
+                yield "a buffer of no bytes is not refused"
+            if Sealing(by_page, key_file, tag_key, sheet, plain, bytes(len(file))).sealed() != (0, file):
+                yield "by the page's steps examples/%s does not come out of its sheet" % folder
+        for first in (b"\x00", b"\x20"):
+            if Sealing(by_page, key, tag_key, first + sheet[1:], plain, bytes(len(file))).sealed() != (1, bytes(len(file))):
+                yield "the key of examples/%s is enough for a sheet with %s" % (folder, first.hex())
         firsts = [archive.seal_output(key, tag_key, given, plain)[0][0] for given in (sheet, b"")]
         if firsts != [2 if tag_key else 1, 0x72]:
             yield "the first byte does not tell an archive from a refusal"

@@ -25,8 +25,9 @@ calls on the tagged sample. Then a line a call that seals the jobs of the sample
     seal, CASE in N bytes: bytes M, buffer HEX
 
 or `refused R`. The buffer is shown whole again, and no call before has altered it. The archives are
-the samples. Then a line a search of bare contents, in which FILL stands for what a search does not
-look at,
+the samples, and in the last lines, which are about the sheet's key length and the key file's, one
+under a key of 32 bytes. Then a line a search of bare contents, in which FILL stands for what a search
+does not look at,
 
     search 'NUMBER' in 'CONTENTS': index I
 
@@ -50,6 +51,7 @@ import libcrypto  # noqa: E402
 import stored  # noqa: E402
 
 KEY = bytes(range(16))
+LONG_KEY = bytes(range(32))
 NO_TAG_KEY = b""
 FILL = b"."
 BLOCK = bytes(0x11 * i for i in range(16))
@@ -243,9 +245,20 @@ def seals():
             call, given, file = sealed("the " + case, KEY, tag, SHEET, PLAIN, length)
             made.append(file)
             yield call, given
-    call, given, file = sealed("key length 0", KEY + FILL, NO_TAG_KEY, sheet_with(0, bytes(1)), PLAIN, ROOM)
-    yield call, given
-    assert [*made, file] == [b"", sample(), b"", example("tagged/archive.bin"), sample()]
+    assert made == [b"", sample(), b"", example("tagged/archive.bin")]
+
+
+def key_lengths():
+    """Key length 0 means 32; and key files that have more bytes than the key."""
+    made = []
+    for length, size in ((0, 16), (0, 24), (0, 31), (0, 33), (32, 33), (16, 33)):
+        case = "key length %d, key file of %d" % (length, size)
+        call, given, file = sealed(case, (LONG_KEY + FILL)[:size], NO_TAG_KEY, sheet_with(0, bytes([length])), PLAIN, ROOM)
+        made.append(file)
+        yield call, given
+    long = made[4]
+    assert long[1] == len(LONG_KEY) and archive.plain_of(LONG_KEY, NO_TAG_KEY, long) == PLAIN
+    assert made == [b"", b"", b"", long, long, sample()]
 
 
 def searches():
@@ -291,7 +304,7 @@ if __name__ == "__main__":
     for call, given in (*calls(NO_TAG_KEY, sample()), *ranges(NO_TAG_KEY, sample()), *tagged_cases()):
         print("%s: %s" % (call, given))
     tagged = example("tagged/tag.bin"), example("tagged/archive.bin")
-    for call, given in (*calls(*tagged), *ranges(*tagged), *seals()):
+    for call, given in (*calls(*tagged), *ranges(*tagged), *seals(), *key_lengths()):
         print("%s: %s" % (call, given))
     for call, given in searches():
         print("%s: %s" % (call, given))

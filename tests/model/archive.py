@@ -184,7 +184,7 @@ def sealed(key_file, tag_key, sheet, plain):
     """The archive of a sheet's jobs, their plain bytes end to end. Refusals 21, 22, 1, 9, 13, 14, 6, 16 and 17, in this order."""
     refuse_if(len(sheet) < SHEET or (len(sheet) - SHEET) % LINE != 0, 21)
     refuse_if(sheet[0] not in (0, 16, 24, 32), 22)
-    key_length = 16 if sheet[0] == 0 else sheet[0]
+    key_length = 32 if sheet[0] == 0 else sheet[0]
     refuse_if(len(key_file) < key_length, 1)
     refuse_if(len(tag_key) not in (0, 16, 24, 32), 1)
     count = (len(sheet) - SHEET) // LINE

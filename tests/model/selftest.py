@@ -284,7 +284,7 @@ class Tagged(unittest.TestCase):
 
 
 class Sealing(unittest.TestCase):
-    """Document 02, a, and what d says of writing."""
+    """Document 02, a, what d says of writing, and j."""
 
     KEY, TAG_KEY = Tagged.KEY, Tagged.TAG_KEY
     # worked by hand: key length 16, archive number 7, and the two jobs of document 01's example
@@ -302,14 +302,28 @@ class Sealing(unittest.TestCase):
             self.assertEqual(archive.plain_of(self.KEY, tag_key, file), b"dried")
 
     def test_key_files(self):
-        """0 means 16; the key is the front of the key file; the plate never says 0."""
-        for first, length in ((0, 16), (16, 16), (24, 24), (32, 32)):
+        """0 means 32; the key is the front of the key file; the plate never says 0."""
+        for first, length in ((0, 32), (16, 16), (24, 24), (32, 32)):
             sheet = bytes([first]) + self.SHEET[1:]
             wanted = cases.Draft(cases.KEYS[length], 7, [(b"24000017", b"dried"), (b"24000018", b"")]).file()
             for more in (0, 1, 8, 16, 48):
                 self.assertEqual(archive.seal(bytes(range(length + more)), b"", sheet, b"dried"), wanted)
             self.assertEqual(wanted[1], length)
             self.assertEqual(refusal(archive.seal, bytes(length - 1), b"", sheet, b"dried"), 1)
+        for length in (16, 24):
+            self.assertEqual(refusal(archive.seal, bytes(length), b"", b"\0" + self.SHEET[1:], b"dried"), 1)
+
+    def test_zero_means_32(self):
+        """0 on any sheet, good or not, has the answer and the bytes of 32 in its place."""
+        met = set()
+        for case in [*sheets.made(), *sheets.changes(), *sheets.random_sheets(0, 200)]:
+            key_file, tag_key, sheet, plain = case.lent()
+            for file in (key_file, sheets.KEY_FILE[:31], sheets.KEY_FILE[:33]) if sheet else ():
+                for room in (100, archive.LONGEST_FILE):
+                    zero, full = (archive.sealed_into(file, tag_key, bytes([k]) + sheet[1:], plain, bytes(room)) for k in (0, 32))
+                    self.assertEqual(zero, full, case.name)
+                    met.add(zero[0])
+        self.assertEqual(met, {0, 1, 6, 9, 13, 14, 16, 17, 20, 21})
 
     def test_each_refusal_before_those_behind_it(self):
         """From good things, one fault more at a time, the last of the order first."""
@@ -333,6 +347,7 @@ class Sealing(unittest.TestCase):
             (13, 2, self.SHEET[:5] + lines(first, (b"2400001/", 65480))),
             (13, 2, self.SHEET[:5] + lines((b":4000017", 5), (b"24000017", 65480), (b"24000017", 0))),
             (9, 2, self.SHEET[:5] + lines((b":4000017", 5), second, *many)),
+            (1, 2, b"\0" + self.SHEET[1:5] + lines((b":4000017", 5), second, *many)),
             (1, 1, bytes(17)),
             (1, 0, self.KEY[:15]),
             (22, 2, b"\1" + self.SHEET[1:5] + lines((b":4000017", 5), second, *many)),

@@ -16,7 +16,7 @@ KEY_FILE = bytes(range(256)) * 257
 TAG_FILE = bytes(range(0x10, 0x100)) * 300
 PLAIN = random.Random(0).randbytes(300000)
 # What the first byte of a sheet may say, and the key length that it means.
-KEY_LENGTHS = {0: 16, 16: 16, 24: 24, 32: 32}
+KEY_LENGTHS = {0: 32, 16: 16, 24: 24, 32: 32}
 # Lengths of sheets: all short ones, and about those of 64 and 65 jobs, of pages, of what the program reads at a time, and of 30,000 jobs.
 SHEET_LENGTHS = [*range(41), *range(760, 800), *range(4088, 4108), *range(4880, 4900), *range(8188, 8200), *range(8976, 8992)]
 SHEET_LENGTHS += [*range(65530, 65548), *range(360000, 360020)]
@@ -116,7 +116,9 @@ def sheet_lengths(tag_key):
         refusal = 21 if not fits else 9 if length > 5 + 12 * 64 else 0
         yield Case("sheet of %d bytes" % length, KEYS[16], tag_key, whole[:length], b"", refusal)
     for length, refusal in ((4, 21), (5, 0), (6, 21), (16, 21), (17, 13), (18, 21), (773, 13), (785, 9), (360005, 9), (360006, 21)):
-        yield Case("sheet of %d zero bytes" % length, KEYS[16], tag_key, bytes(length), b"", refusal)
+        yield Case("sheet of 16 and zero bytes, %d in all" % length, KEYS[16], tag_key, b"\x10" + bytes(length - 1), b"", refusal)
+        yield Case("sheet of %d zero bytes" % length, KEYS[32], tag_key, bytes(length), b"", refusal)
+        yield Case("sheet of %d zero bytes, 31 of key" % length, KEYS[32][:31], tag_key, bytes(length), b"", 21 if refusal == 21 else 1)
         sheet = b"\xff" * length
         yield Case("sheet of %d bytes ff" % length, KEYS[16], tag_key, sheet, b"", 21 if refusal == 21 else 22)
     yield Case("no sheet.bin", KEYS[16], tag_key, None, b"", 21)
@@ -290,6 +292,11 @@ def _short_key_file(sheet):
     sheet.key_file = KEY_FILE[:15]
 
 
+def _zero(sheet):
+    """0 on the sheet of a key file of 16 bytes."""
+    sheet.key_length = 0
+
+
 def _short_tag_key(sheet):
     sheet.tag_key = TAG_KEY[:15]
 
@@ -324,6 +331,7 @@ FRONT_FAULTS = [
     Fault("21", 21, _tail),
     Fault("22", 22, _first_byte),
     Fault("1", 1, _short_key_file),
+    Fault("1 by 0 on the sheet", 1, _zero),
     Fault("1 of the tag key", 1, _short_tag_key),
     Fault("9", 9, _many),
 ]
@@ -355,8 +363,8 @@ def pairs(tag_key):
     whole = FRONT_FAULTS + END_FAULTS
     for i, first in enumerate(whole):
         for second in whole[i + 1 :]:
-            # plain bytes are not both too few and too many
-            if {first.number, second.number} not in ({16}, {16, 17}):
+            # plain bytes are not both too few and too many, and a sheet has one first byte
+            if {first.number, second.number} not in ({16}, {16, 17}) and (first.put, second.put) != (_first_byte, _zero):
                 sheet = Sheet(tag_key=tag_key)
                 second.put(sheet)
                 first.put(sheet)
@@ -453,11 +461,11 @@ def tag_key_lengths():
         yield Sheet(tag_key=tag_key).case("tag file of %d bytes" % length, 0 if length in (0, *KEYS) else 1)
     for length in (0, 1, 15, 16, 17, 31, 32, 33, 34, 65537):
         good_length = length in (0, *KEYS)
-        for fault in (*FRONT_FAULTS[:3], FRONT_FAULTS[4], END_FAULTS[0]):
+        for fault in (*FRONT_FAULTS[:4], FRONT_FAULTS[5], END_FAULTS[0]):
             sheet = Sheet()
             fault.put(sheet)
             sheet.tag_key = TAG_FILE[:length]
-            refusal = fault.number if good_length or fault in FRONT_FAULTS[:3] else 1
+            refusal = fault.number if good_length or fault in FRONT_FAULTS[:4] else 1
             yield sheet.case("tag file of %d bytes and fault %s" % (length, fault.name), refusal)
 
 
@@ -527,7 +535,7 @@ def made():
 
 def rebuilt(archives):
     """Of each accepted archive, its own sheet, key and plain bytes, and the archive that is to come out of them.
-    The key file is longer than the key by turns, and where the key has 16 bytes, the sheet by turns says 0."""
+    The key file is longer than the key by turns, and where the key has 32 bytes, the sheet by turns says 0."""
     turn = 0
     for case in archives:
         try:
@@ -535,7 +543,7 @@ def rebuilt(archives):
         except archive.Refused:
             continue
         sheet = archive.sheet_of(case.file)
-        if sheet[0] == 16 and turn % 2:
+        if sheet[0] == 32 and turn % 2:
             sheet = byte_set(sheet, 0, 0)
         key_file = case.key + TAG_FILE[: (0, 1, 17)[turn % 3]]
         plain = archive.plain_of(*case.lent())

@@ -38,10 +38,10 @@ use Rattle.known_answers.specs.Readings.{every}
 use Rattle.known_answers.specs.Vectors.{rfcKey}
 use Rattle.known_answers.specs.Sample.{sampleFile, samplePlain, gave, refusedBy}
 use Rattle.known_answers.specs.Tagged.{taggedFile, sampleTagKey}
-use Rattle.known_answers.specs.Sealed.{sampleSheet, SamplesSealed, sheetWith, sealReadings}
+use Rattle.known_answers.specs.Sealed.{sampleSheet, sampleUnder32, SamplesSealed, swappedSheet, sheetWith, sealReadings}
 
 pub samples-sealed : SamplesSealed
-unfolding rfcKey sampleFile samplePlain taggedFile sampleTagKey sampleSheet
+unfolding rfcKey sampleFile samplePlain taggedFile sampleTagKey sampleSheet sampleUnder32
     xorBlock blockOf row chained
     s1 s2 s3 s4 boxes boxBy box layerFrom rows xorAt byRows diffusion followedBy asNumber asBlock rotateRight rotateLeft
     keyAt oddRound evenRound lastRound rounds circuit aria
@@ -56,11 +56,12 @@ samples-sealed =
     record {
       sample = record { bytes = refl; answered = refl; own-sheet = refl; own-plain = refl };
       tagged = record { bytes = refl; answered = refl; own-sheet = refl; own-plain = refl };
+      front = record { bytes = refl; answered = refl; own-sheet = refl; own-plain = refl };
       key-0 = record { bytes = refl; answered = refl; own-sheet = refl; own-plain = refl };
     }
 
 pub seal-holds : every sealReadings ≡ true
-unfolding every gave refusedBy rfcKey sampleTagKey sampleSheet sheetWith sealReadings
+unfolding every gave refusedBy rfcKey sampleTagKey sampleSheet swappedSheet sheetWith sealReadings
     firstOf itemByItem goodKey tagKeyCases allBelow layoutUnder tagSize digits centuryOf serialOf orderOf ascendsIn
     keySizeOf lineAt sizesOn isLength isKeyLength sheetCases lineCases linesCases lengthOn keyFileCases lengthCases restCases sealCases
 seal-holds = refl

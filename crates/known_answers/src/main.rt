@@ -524,20 +524,44 @@ fn seal_samples(key: &[u8], tag_key: &[u8], buffer: &mut [u8]) {
     );
 }
 
-// Key length 0, which means 16, and a key file that has more bytes than the key.
-fn seal_short_key(key: &[u8]) {
-    let sheet = sheet_with(0, b"\x00");
-    let mut file = [b'.'; 17];
-    octets::put(&mut file, 0, key);
+// The sample with another key length on its sheet, into a buffer of its own.
+fn seal_key_length(case: &[u8], length: &[u8], key_file: &[u8]) {
+    let sheet = sheet_with(0, length);
     let mut buffer = [b'.'; 60];
-    print_sealed(
-        b"seal, key length 0",
-        &file,
-        b"",
-        &sheet,
-        b"dried",
-        &mut buffer,
-    );
+    print_sealed(case, key_file, b"", &sheet, b"dried", &mut buffer);
+}
+
+// Key files that are too short for key length 0, which means 32.
+fn seal_short_key_files(key_file: &[u8]) {
+    let of_16 = octets::part(key_file, 0, 16);
+    let of_24 = octets::part(key_file, 0, 24);
+    let of_31 = octets::part(key_file, 0, 31);
+    seal_key_length(b"seal, key length 0, key file of 16", b"\x00", of_16);
+    seal_key_length(b"seal, key length 0, key file of 24", b"\x00", of_24);
+    seal_key_length(b"seal, key length 0, key file of 31", b"\x00", of_31);
+}
+
+// One that has a byte more than any key, with 32 in its place too, and with 16, for which it begins with the sample's key.
+fn seal_long_key_file(key_file: &[u8]) {
+    seal_key_length(b"seal, key length 0, key file of 33", b"\x00", key_file);
+    seal_key_length(b"seal, key length 32, key file of 33", b"\x20", key_file);
+    seal_key_length(b"seal, key length 16, key file of 33", b"\x10", key_file);
+}
+
+// The 32 bytes of RFC 5794's longest key, which begins with that of the sample, and a byte more.
+fn long_key_file(key: &[u8]) -> [u8; 33] {
+    let more = tag_bytes();
+    let mut file = [b'.'; 33];
+    octets::put(&mut file, 0, key);
+    octets::put(&mut file, 16, octets::part(&more, 0, 16));
+    file
+}
+
+// Key lengths on the sheet, and key files of other lengths.
+fn seal_key_lengths(key: &[u8]) {
+    let file = long_key_file(key);
+    seal_short_key_files(&file);
+    seal_long_key_file(&file);
 }
 
 // The calls of `sealing`. The refused ones have one buffer in turn, with room for the sample, which is sealed into it then.
@@ -550,7 +574,7 @@ fn sample_seals(key: &[u8]) {
     seal_lines(key, &mut buffer);
     seal_plains(key, &mut buffer);
     seal_samples(key, octets::part(&bytes, 0, 32), &mut buffer);
-    seal_short_key(key);
+    seal_key_lengths(key);
 }
 
 // A line: the number, the bare directory, and what a search of it answers. Of an entry a search looks at the number only.

@@ -9,7 +9,7 @@ use lib.ListN.{length}
 use Rattle.refusals.specs.Shared.{goodKey, tagKeyCases}
 use Rattle.header.specs.Fields.{layoutUnder, tagSize}
 use Rattle.jobnumber.specs.Ascending.{ascendsIn}
-use Rattle.sheet.specs.Sheet.{lines}
+use Rattle.sheet.specs.Sheet.{keySizeOf, lines}
 use Rattle.sheet.specs.Cases.{isLength, isKeyLength, sheetCases, lineCases, linesCases}
 use Rattle.sealing.specs.Seal.{lengthOn, keyFileCases, lengthCases, restCases, sealCases}
 use Rattle.sealing.specs.WrittenOut.{asked, archiveLength, writtenOutCases, SealWrittenOut}
@@ -27,6 +27,6 @@ unfolding lengthOn
 whole tagKey sheet = ap (λ (n : ℕ). 20 + 16 * lines sheet + asked sheet + n) (tag-length tagKey)
 
 pub seal-written-out : SealWrittenOut
-unfolding sealCases sheetCases isLength isKeyLength goodKey keyFileCases tagKeyCases restCases linesCases lineCases ascendsIn lengthCases
-    writtenOutCases
+unfolding sealCases sheetCases isLength isKeyLength goodKey keySizeOf keyFileCases tagKeyCases restCases linesCases lineCases ascendsIn
+    lengthCases writtenOutCases
 seal-written-out keyFile tagKey sheet given room = rw (whole tagKey sheet) refl

@@ -34,7 +34,7 @@ pub record Rebuilds (file before : List ℕ) (a : Answer) (after : List ℕ) : T
   pub bytes : after ≡ file ++ drop (length file) before
 
 -- a file of bytes that is accepted under a key and a tag key; a key file that begins with the key; a first byte that means the key's
--- length; a buffer long enough; and any call that meets the contract of sealing
+-- length, so that length, or 0 where it is 32 (02, j); a buffer long enough; and any call that meets the contract of sealing
 abbrev pub SealRebuilds : Type 0
 SealRebuilds = (key tagKey file keyFile : List ℕ) (n k : ℕ) (before : List ℕ) (a : Answer) (after : List ℕ) → Octets file
     → checkOf key tagKey file ≡ gives n → take (length key) keyFile ≡ key → keySizeOf k ≡ length key → length file ≤ length before

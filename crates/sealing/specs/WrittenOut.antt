@@ -10,10 +10,13 @@ use lib.Dec.{leb, ltb, eqb}
 use lib.ListN.{length, getD}
 use Rattle.refusals.specs.Cases.{Case, when, itemByItem}
 use Rattle.jobnumber.specs.Number.{digits, orderOf}
-use Rattle.sheet.specs.Sheet.{keySizeOn, lines, lineAt, sizesOn}
+use Rattle.sheet.specs.Sheet.{lines, lineAt, sizesOn}
 use Rattle.sealing.specs.Seal.{sealCases}
 
--- the plain bytes that the sheet asks for, and the length of the archive
+-- the key's length, of which 0 means 32 (j); the plain bytes that the sheet asks for; and the length of the archive
+abbrev pub keyLength : List ℕ → ℕ
+keyLength sheet = cond (eqb (getD sheet 0 0) 0) 32 (getD sheet 0 0)
+
 abbrev pub asked : List ℕ → ℕ
 asked sheet = sizesOn sheet (lines sheet)
 
@@ -24,7 +27,7 @@ unfoldable pub writtenOutCases : List ℕ → List ℕ → List ℕ → ℕ → 
 writtenOutCases keyFile tagKey sheet given room =
     when (not (leb 5 (length sheet) && eqb ((length sheet - 5) % 12) 0)) 21
     ∷ when (not (eqb (getD sheet 0 0) 0 || (eqb (getD sheet 0 0) 16 || (eqb (getD sheet 0 0) 24 || eqb (getD sheet 0 0) 32)))) 22
-    ∷ when (ltb (length keyFile) (keySizeOn sheet)) 1
+    ∷ when (ltb (length keyFile) (keyLength sheet)) 1
     ∷ when (not (eqb (length tagKey) 0 || (eqb (length tagKey) 16 || (eqb (length tagKey) 24 || eqb (length tagKey) 32)))) 1
     ∷ when (ltb 64 (lines sheet)) 9
     ∷ itemByItem (λ (i : ℕ).

@@ -18,9 +18,9 @@ use Rattle.sheet.specs.Cases.{isLength, isKeyLength, sheetCases, lineCas
 
 -- ---- the length and the first byte
 
-good-16 : goodKey 16 ≡ true
+good-32 : goodKey 32 ≡ true
 unfolding goodKey
-good-16 = refl
+good-32 = refl
 
 pub record SheetGood (sheet : List ℕ) : Type 0 where
   pub five : 5 ≤ length sheet
@@ -49,7 +49,7 @@ unfolding isKeyLength keySizeOf
 key-size-good sheet e = go (eqb (getD sheet 0 0) 0) refl
   where
     go : (b : Bool) → eqb (getD sheet 0 0) 0 ≡ b → goodKey (keySizeOn sheet) ≡ true
-    go true q = rw q good-16
+    go true q = rw q good-32
     go false q = rw q (rw q at e)
 
 -- and a byte that means one may be there

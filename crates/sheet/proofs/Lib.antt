@@ -1,3 +1,4 @@
 pub mod LineLaws
 pub mod Cases
 pub mod Long
+pub mod FirstByte

@@ -1,5 +1,5 @@
 -- The job sheet (02, a): "The sheet is one byte of key length, four bytes of archive number, then per job eight digits and four bytes of
--- length. Key length 0 means 16." The twelve bytes of a job are a line here.
+-- length"; "key length 0 on a sheet shall now mean 32" (02, j). The twelve bytes of a job are a line here.
 -- Every definition is over any bytes: a byte that is missing reads as 0, and bytes after the last whole line belong to none.
 -- Assumes nothing.
 use mathlib.Core.Path.{_≡_}
@@ -14,7 +14,7 @@ use Rattle.octets.specs.Parts.{liesAt}
 
 -- how many bytes the key has, by the sheet's first byte
 unfoldable pub keySizeOf : ℕ → ℕ
-keySizeOf n = cond (eqb n 0) 16 n
+keySizeOf n = cond (eqb n 0) 32 n
 
 abbrev pub keySizeOn : List ℕ → ℕ
 keySizeOn sheet = keySizeOf (getD sheet 0 0)

@@ -12,13 +12,13 @@ ghost use Rattle.sheet.specs.Sheet.{keySizeOn, NumberPart, lines, lineAt
 ghost use Rattle.sheet.specs.Long.{handedOn};
 ghost use Rattle.sheet.specs.Cases.{isLength, isKeyLength, sheetCases, lineCases, linesCases};
 
-// How many bytes the key has.
+// How many bytes the key has: as many as the first byte says, 32 where it is 0.
 pub fn key_size(sheet: &[u8]) -> usize
     ensures { λ r. ⌜ (r ≡ keySizeOn (now (sheet .entry))) × (r < 256) ⌝ }
 {
     let n = octets::byte_at(sheet, 0);
     if n == 0 {
-        return 16;
+        return 32;
     }
     n
 }
