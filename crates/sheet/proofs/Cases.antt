@@ -18,10 +18,6 @@ use Rattle.sheet.specs.Cases.{isLength, isKeyLength, sheetCases, lineCas
 
 -- ---- the length and the first byte
 
-good-32 : goodKey 32 ≡ true
-unfolding goodKey
-good-32 = refl
-
 pub record SheetGood (sheet : List ℕ) : Type 0 where
   pub five : 5 ≤ length sheet
   pub twelves : (length sheet - 5) % 12 ≡ 0
@@ -45,11 +41,11 @@ module _ (sheet : List ℕ) where
 
 -- a first byte that may be there means a good key
 pub key-size-good : (sheet : List ℕ) → isKeyLength (getD sheet 0 0) ≡ true → goodKey (keySizeOn sheet) ≡ true
-unfolding isKeyLength keySizeOf
+unfolding isKeyLength keySizeOf goodKey
 key-size-good sheet e = go (eqb (getD sheet 0 0) 0) refl
   where
     go : (b : Bool) → eqb (getD sheet 0 0) 0 ≡ b → goodKey (keySizeOn sheet) ≡ true
-    go true q = rw q good-32
+    go true q = rw q
     go false q = rw q (rw q at e)
 
 -- and a byte that means one may be there
