@@ -541,7 +541,7 @@ fn seal_short_key_files(key_file: &[u8]) {
     seal_key_length(b"seal, key length 0, key file of 31", b"\x00", of_31);
 }
 
-// One that has a byte more than any key, with 32 in its place too, and with 16, for which it begins with the sample's key.
+// A key file with a byte more than any key has: under key length 0, under 32, which gives the same, and under 16, which gives the sample.
 fn seal_long_key_file(key_file: &[u8]) {
     seal_key_length(b"seal, key length 0, key file of 33", b"\x00", key_file);
     seal_key_length(b"seal, key length 32, key file of 33", b"\x20", key_file);

@@ -16,8 +16,8 @@ abbrev pub ZeroMeans32 : Type 0
 ZeroMeans32 = (keyFile tagKey rest plain before : List ℕ) (a b : Answer) (left right : List ℕ)
     → Seals keyFile tagKey (0 ∷ rest) plain before a left → Seals keyFile tagKey (32 ∷ rest) plain before b right → (a ≡ b) × (left ≡ right)
 
--- with a sheet that begins with 0 and passes 21, a key file of fewer than 32 bytes, so one of 16 or of 24, gets 1, whatever else is handed
--- over
+-- with a sheet that begins with 0 and passes 21, a key file of fewer than 32 bytes, so one of 16 or of 24, gets 1, and the buffer is as it
+-- was, whatever else is handed over
 abbrev pub ShortForZero : Type 0
 ShortForZero = (keyFile tagKey rest plain before : List ℕ) (a : Answer) (after : List ℕ) → isLength (length (0 ∷ rest)) ≡ true
     → length keyFile < 32 → Seals keyFile tagKey (0 ∷ rest) plain before a after → (a ≡ refused 1) × (after ≡ before)
