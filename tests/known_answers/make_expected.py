@@ -249,7 +249,7 @@ def seals():
 
 
 def key_lengths():
-    """Key length 0 means 32; and key files that have more bytes than the key."""
+    """Key length 0 means 32: key files that are too short for it, and files that have more bytes than the key."""
     made = []
     for length, size in ((0, 16), (0, 24), (0, 31), (0, 33), (32, 33), (16, 33)):
         case = "key length %d, key file of %d" % (length, size)

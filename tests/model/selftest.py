@@ -347,7 +347,6 @@ class Sealing(unittest.TestCase):
             (13, 2, self.SHEET[:5] + lines(first, (b"2400001/", 65480))),
             (13, 2, self.SHEET[:5] + lines((b":4000017", 5), (b"24000017", 65480), (b"24000017", 0))),
             (9, 2, self.SHEET[:5] + lines((b":4000017", 5), second, *many)),
-            (1, 2, b"\0" + self.SHEET[1:5] + lines((b":4000017", 5), second, *many)),
             (1, 1, bytes(17)),
             (1, 0, self.KEY[:15]),
             (22, 2, b"\1" + self.SHEET[1:5] + lines((b":4000017", 5), second, *many)),

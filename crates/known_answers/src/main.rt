@@ -524,7 +524,7 @@ fn seal_samples(key: &[u8], tag_key: &[u8], buffer: &mut [u8]) {
     );
 }
 
-// The sample with another key length on its sheet, into a buffer of its own.
+// The sample's jobs with this key length on their sheet, into a buffer of its own.
 fn seal_key_length(case: &[u8], length: &[u8], key_file: &[u8]) {
     let sheet = sheet_with(0, length);
     let mut buffer = [b'.'; 60];
@@ -564,7 +564,8 @@ fn seal_key_lengths(key: &[u8]) {
     seal_long_key_file(&file);
 }
 
-// The calls of `sealing`. The refused ones have one buffer in turn, with room for the sample, which is sealed into it then.
+// The calls of `sealing`. Those that are refused whatever the buffer have one in turn, with room for the sample, which is sealed into it
+// then; those about key lengths have each its own.
 fn sample_seals(key: &[u8]) {
     let bytes = tag_bytes();
     let mut buffer = [b'.'; 60];

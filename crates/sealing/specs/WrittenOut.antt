@@ -13,7 +13,7 @@ use Rattle.jobnumber.specs.Number.{digits, orderOf}
 use Rattle.sheet.specs.Sheet.{lines, lineAt, sizesOn}
 use Rattle.sealing.specs.Seal.{sealCases}
 
--- the key's length, of which 0 means 32 (j); the plain bytes that the sheet asks for; and the length of the archive
+-- the key's length by the sheet's first byte, 32 for 0 (j); the plain bytes that the sheet asks for; and the length of the archive
 abbrev pub keyLength : List ℕ → ℕ
 keyLength sheet = cond (eqb (getD sheet 0 0) 0) 32 (getD sheet 0 0)
 
