@@ -1,4 +1,5 @@
-"""Sees that docs/FORMAT.md is true: its worked examples, its cipher, its reader, its writer, its rule for hexadecimal, its names.
+"""Sees that docs/FORMAT.md is true: its worked examples, its cipher, its reader, its writer, its way to drop jobs, its rule for
+hexadecimal, its names.
 
     python3 tests/docs/check_format.py [PAGE]
 
@@ -9,12 +10,14 @@ rotations off the page and follows sentences that must stand there; it must give
 and libcrypto's bytes. The reader below is written from the page alone too, and takes the fields and the
 order of the checks from it; it must answer what the model of tests/model answers, on files of both
 layouts, whole and spoiled. So must the writer below on sheets, good and bad; what it writes is read again
-by the reader, and what the reader accepts is written again. Every definition that the page names stands in
-the file that it gives, needs no name that the page does not explain or find in a file above it, and gives
-the vectors and the tags too, computed by definitions.py.
+by the reader, and what the reader accepts is written again. And so must the way to drop jobs below, on
+archives and lists, good and bad; what is left is read again, and is what the writer makes of the other jobs.
+Every definition that the page names stands in the file that it gives, needs no name that the page does not explain
+or find in a file above it, and gives the vectors and the tags too, computed by definitions.py.
 """
 
 import functools
+import itertools
 import os
 import random
 import re
@@ -38,6 +41,8 @@ KEYS = [bytes(range(n)) for n in (16, 24, 32)]
 SMALL, TAGGED = "A small archive, byte by byte", "The same archive with a tag, byte by byte"
 SHEET, WORKED_SHEET = "The sheet, 5 bytes and 12 a job", "The sheet of both archives, byte by byte"
 WRITER, SEALED = "The checks of a writer", "The archive of a sheet"
+DROPPER, LEFT = "The checks of dropping", "The archive that is left"
+WORKED_LEFT = "Both archives without job 24000018, byte by byte"
 # Words of prose that are written with the letters a to f alone.
 WORDS = {"a", "be", "add", "added", "bad"}
 # Words of a paper that the reader does not have.
@@ -76,8 +81,25 @@ WRITING_SAYS = [
     "Each column, from top to bottom, is one of the two archives worked above.",
     "A sheet with `00` or `20` for its first byte is refused under this key, with 1, for it asks for 32 bytes of key.",
 ]
-# Sentences of rules that the cipher, the reader or the writer below follows without reading them off the page: they must stand there as
-# they are.
+# Sentences on dropping jobs whose truth is tried below.
+DROPPING_SAYS = [
+    "to write the new archive then takes the tag key in layout 2, and in layout 1 no key.",
+    "To what is written, their order makes no difference, and a number that is listed twice counts once. So there may be more than 64.",
+    "A list of no bytes has no numbers; then nothing is dropped, and the new archive is the old one, byte for byte.",
+    "So one number that is missing refuses the whole list, and no job is dropped.",
+    "20 measures the new archive, its tag included, and not the old one.",
+    "The new archive is never longer than the old one, so a buffer as long as the old one is long enough.",
+    "What comes out is what a writer makes, under the same keys,",
+    "of the old archive's own sheet without the lines of the jobs that go, and of the plain bytes of the others.",
+    "A reader accepts it under the same keys.",
+    "The jobs that stay open to the same plain bytes, and who asks for one that went gets 19.",
+    "Where every job is listed, an archive of no jobs is left, of 20 bytes, or of 36 in layout 2.",
+    "it holds the jobs still, it is accepted, and in layout 2 its own tag is right.",
+    "The archive number stays the same, and may, for the bodies that stay are the same bytes.",
+    "Each column, from top to bottom, is a whole new archive.",
+]
+# Sentences of rules that the cipher, the reader, the writer or the way to drop jobs below follows without reading them off the page: they
+# must stand there as they are.
 FOLLOWED = [
     "A number of several bytes has its most significant byte first and has no sign.",
     "A digit is one of the ten bytes `30` to `39`, the digits 0 to 9 of ASCII.",
@@ -114,6 +136,15 @@ FOLLOWED = [
     "and each piece ⊕ the keystream of its job, by the archive number and the job number, is the job's body.",
     "Then in layout 2 the tag, under the tag key, of all bytes so far. Nothing follows.",
     "The archive stands at the front of the buffer, and the bytes past it stay as they were.",
+    "Number k, counted from 0, is the eight bytes from position 8 × k on.",
+    "How many there are is told by the list's length alone: length div 8.",
+    "The whole check of a reader comes first, check 25 included:",
+    "Then for each number of the list in turn, both of its checks before the next number:",
+    "A refusal changes no byte of the buffer, nor of the old archive.",
+    "An entry stays where its job number is not in the list.",
+    "Then the bodies of these jobs, in the same order, each with the bytes that it has in the old file, from its old start on.",
+    "In layout 2 the tag follows, made anew under the tag key of all bytes so far; the old tag is of other bytes. Nothing follows.",
+    "The new archive stands at the front of the buffer, and the bytes past it stay as they were.",
     "The bits of a byte are numbered 0 to 7, and bit 0 is worth 1.",
     "The inverse of x is the byte whose product with x is `01`; the inverse of `00` is `00`.",
     "S3(S1(x)) = x and S4(S2(x)) = x for every byte x.",
@@ -221,6 +252,8 @@ def faults_of_refusals(page):
     numbers = [int(row[0]) for row in page.section(WRITER).table("number", "refused because")]
     if numbers != [21, 22, 1, 1, 9, 13, 14, 6, 16, 17, 20]:
         yield "the refusals of a writer are not 21, 22, 1 for each key, 9, 13, 14, 6, 16, 17 and 20 in order"
+    if [int(row[0]) for row in page.section(DROPPER).table("number", "refused because")] != [27, 18, 19, 20]:
+        yield "the refusals of dropping are not 27, 18, 19 and 20 in order"
 
 
 def faults_of_layout(page):
@@ -259,6 +292,8 @@ def faults_of_layout(page):
             "6": "the length of the whole file, the tag included, exceeds {:,}".format(archive.LONGEST_FILE),
         },
     )
+    page.section("The list, %d bytes a number" % archive.NUMBER)
+    yield from faults_of_limits(page.section(DROPPER), {"27": "the list's length is not a multiple of %d" % archive.NUMBER})
 
 
 def faults_of_limits(page, limits):
@@ -279,6 +314,7 @@ def faults_of_samples(page):
     if (key, b"", without_tag(file)) != sample("sample"):
         yield "the tagged sample without its tag is not the sample"
     yield from faults_of_sheet(page.section(WORKED_SHEET))
+    yield from faults_of_left(page.section(WORKED_LEFT))
 
 
 def without_tag(file):
@@ -315,9 +351,8 @@ def faults_of_sheet(page):
     said = "The plain bytes are those of job 24000017 alone, the text `%s`," % plain.decode()
     if said not in page.text:
         yield "it does not say: %s" % said
-    *rows, (label, none, tag) = page.table("written of it", "without a tag key", "under the tag key")
-    columns = [b"".join(octets(row[at]) for row in rows) for at in (1, 2)]
-    if (label, none) != ("tag", "none") or [columns[0], columns[1] + octets(tag)] != [sample(name)[2] for name in ("sample", "tagged")]:
+    columns = columns_of(page.table("written of it", "without a tag key", "under the tag key"))
+    if columns != [sample(name)[2] for name in ("sample", "tagged")]:
         yield "what is written of the sheet is not the samples' archives"
     lengths = [int.from_bytes(sheet[at + 8 : at + 12], "big") for at in range(5, len(sheet), 12)]
     front = 20 + 16 * len(lengths)
@@ -329,6 +364,42 @@ def faults_of_sheet(page):
         "the sheet ends here, at %d = 5 + 12 × %d" % (len(sheet), len(lengths)),
     ):
         if said not in page.text:
+            yield "it does not say: %s" % said
+
+
+def columns_of(table):
+    """The bytes of the second and the third column, from top to bottom; the last row is the tag, which the second has not."""
+    *rows, (label, none, tag) = table
+    if (label, none) != ("tag", "none"):
+        raise ValueError("the last row is not the tag, of the third column alone")
+    first, second = (b"".join(octets(row[at]) for row in rows) for at in (1, 2))
+    return [first, second + octets(tag)]
+
+
+def faults_of_left(page):
+    """What is left of the samples, column by column, is the model's, and the tag libcrypto's; so are the lengths that are told."""
+    listed = re.search(r"The list is that job's number, the eight bytes `([0-9a-f ]+)`\.", page.text).group(1)
+    columns = columns_of(page.table("what is left", "of the first archive", "of the one with a tag"))
+    if columns != [archive.drop(*sample(name), bytes.fromhex(listed)) for name in ("sample", "tagged")]:
+        yield "what is left of the samples is not as the model leaves it"
+    _, tag_key, _ = sample("tagged")
+    if columns[1] != mended(columns[1], tag_key):
+        yield "the tag of what is left is not libcrypto's"
+    lengths = []
+    for numbers in (b"24000017", b"2400001724000018", b"2400001824000017"):
+        lengths.append([len(archive.drop(*sample(name), numbers)) for name in ("sample", "tagged")])
+    one, both, other = lengths
+    start, size = (int.from_bytes(columns[0][at : at + 4], "big") for at in (28, 32))
+    for said in (
+        "One entry stays, that of job %s." % columns[0][20:28].decode(),
+        "The directory has 16 bytes less, so its body moves up from %d to %d = 20 + 16 × 1." % (start + 16, start),
+        "The whole file is %d = 20 + 16 × 1 + %d bytes long in layout 1, and %d = %d + 16 in layout 2."
+        % (len(columns[0]), size, len(columns[1]), len(columns[0])),
+        "The tag is OpenSSL's too, under the same tag key, of bytes 0 to %d." % (len(columns[0]) - 1),
+        "the list being `%s`, job 24000018 is left, with start 36 and length 0, in %d and %d bytes." % (b"24000017".hex(" "), *one),
+        "Without both, in whichever order they are listed, no jobs are left, in %d and %d bytes." % tuple(both),
+    ):
+        if said not in page.text or both != other:
             yield "it does not say: %s" % said
 
 
@@ -778,7 +849,8 @@ def in_years(number):
     return (1900 if year >= 70 else 2000) + year, int(number[2:])
 
 
-# The reader's and the writer's way to each check, by the words that must stand on the page; its number and its place are the page's.
+# The way to each check of the reader, of the writer and of dropping, by the words that must stand on the page; its number and its place are
+# the page's.
 CHECKS = {
     "the key is not 16, 24 or 32 bytes long": lambda a: len(a.key) not in (16, 24, 32),
     "a tag key is given, and is not 16, 24 or 32 bytes long": lambda a: a.tag_key and len(a.tag_key) not in (16, 24, 32),
@@ -834,6 +906,11 @@ CHECKS = {
     "the plain bytes are fewer than the lengths on the lines in all": lambda a: len(a.plain) < sum(a.lengths()),
     "the plain bytes are more than that": lambda a: len(a.plain) > sum(a.lengths()),
     "the buffer for the archive is shorter than the whole file; a writer that makes the buffer itself never meets this": (
+        lambda a: len(a.buffer) < a.whole()
+    ),
+    "the list's length is not a multiple of 8": lambda a: len(a.listed) % 8 != 0,
+    "a byte of the number is no digit": lambda a: not digits(a.listed_at(a.index)),
+    "the buffer for the new archive is shorter than that archive; a program that makes the buffer itself never meets this": (
         lambda a: len(a.buffer) < a.whole()
     ),
 }
@@ -985,10 +1062,25 @@ class Writer:
         turns = "^Then for each line in turn, both of its checks before the next line:$|^Then:$"
         parts = re.split(turns, page.section(WRITER).text, flags=re.M)
         self.first, self.by_entry, self.then = [Page(part).table("number", "refused because") for part in parts]
-        parts = page.section(SEALED).text.split("Then an entry for each line, in the same order:")
-        self.header, self.entry = [Page(part).table("field", "what is written") for part in parts]
-        if [[name for name, _ in rows] for rows in (self.header, self.entry)] != [list(self.reader.header), list(self.reader.entry)]:
-            raise ValueError("what is written is not every field, in order")
+        self.header, self.entry = every_field(self.reader, page.section(SEALED), "Then an entry for each line, in the same order:")
+
+
+def every_field(reader, page, turn):
+    """What is written in every field of the header, and after the turn in every field of an entry."""
+    header, entry = [Page(part).table("field", "what is written") for part in page.text.split(turn)]
+    if [[name for name, _ in rows] for rows in (header, entry)] != [list(reader.header), list(reader.entry)]:
+        raise ValueError("what is written is not every field, in order")
+    return header, entry
+
+
+def filled(made, rows, places):
+    """The fields that the rows say, each at its place, of what is sealed or dropped."""
+    out = bytearray(sum(size for _, size in places.values()))
+    for name, words in rows:
+        at, size = places[name]
+        value = WRITTEN[words](made, name)
+        out[at : at + size] = value if isinstance(value, bytes) else value.to_bytes(size, "big")
+    return bytes(out)
 
 
 class Sealing(Checked):
@@ -1022,15 +1114,6 @@ class Sealing(Checked):
         """Where the body of the line that is at hand starts."""
         return 20 + 16 * self.jobs() + sum(self.lengths()[: self.index])
 
-    def fields(self, rows, places):
-        """The fields that the rows say, each at its place."""
-        out = bytearray(sum(size for _, size in places.values()))
-        for name, words in rows:
-            at, size = places[name]
-            value = WRITTEN[words](self, name)
-            out[at : at + size] = value if isinstance(value, bytes) else value.to_bytes(size, "big")
-        return bytes(out)
-
     def body(self, piece):
         """The body of the line that is at hand."""
         encrypt, job = self.writer.reader.encrypt, (self.field("archive number"), self.entry(self.index, "job number"))
@@ -1043,9 +1126,9 @@ class Sealing(Checked):
     def archive(self):
         directory = bodies = b""
         for self.index, length in enumerate(self.lengths()):
-            directory += self.fields(self.writer.entry, self.writer.reader.entry)
+            directory += filled(self, self.writer.entry, self.writer.reader.entry)
             bodies += self.body(self.plain[len(bodies) : len(bodies) + length])
-        front = self.fields(self.writer.header, self.writer.reader.header) + directory + bodies
+        front = filled(self, self.writer.header, self.writer.reader.header) + directory + bodies
         if not self.tag_key:
             return front
         return front + tag_of(functools.partial(self.writer.reader.encrypt, self.tag_key), front, self.writer.reader.constant)
@@ -1059,7 +1142,7 @@ class Sealing(Checked):
         return 0, file + self.buffer[len(file) :]
 
 
-# The writer's way to what is written in a field, by the words that must stand on the page.
+# The way to what is written in a field, by the writer and in dropping, by the words that must stand on the page.
 WRITTEN = {
     "2 where a tag key is given, 1 where none is": lambda a, name: 2 if a.tag_key else 1,
     "32 where the sheet has 0, else as on the sheet; so never 0": lambda a, name: a.field(name)[0] or 32,
@@ -1069,6 +1152,11 @@ WRITTEN = {
     "20 + 16 × count + the lengths on the lines in all, + 16 in layout 2": lambda a, name: a.whole(),
     "as on the line": lambda a, name: a.entry(a.index, name),
     "20 + 16 × count for line 0; for any other the start and the length of the entry before it, added": lambda a, name: a.start(),
+    "as in the old header": lambda a, name: a.old.header(name),
+    "how many entries stay": lambda a, name: len(a.staying()),
+    "20 + 16 × count + the lengths of the entries that stay in all, + 16 in layout 2": lambda a, name: a.whole(),
+    "as in the old entry": lambda a, name: a.old.entry(a.staying()[a.index], name),
+    "20 + 16 × count for the first; for any other the new start and the length of the entry before it, added": lambda a, name: a.start(),
 }
 
 
@@ -1213,6 +1301,176 @@ def faults_of_sealed_samples(page, writer):
             yield "it does not say: %s" % sentence
 
 
+# ---- dropping jobs, from the page alone
+
+
+class Dropper:
+    """What the page says of dropping jobs: the checks in their order, and what is written in each field."""
+
+    def __init__(self, page, encrypt):
+        self.reader = Reader(page, encrypt)
+        turns = "^Then for each number of the list in turn, both of its checks before the next number:$|^Then:$"
+        parts = re.split(turns, page.section(DROPPER).text, flags=re.M)
+        self.first, self.by_entry, self.then = [Page(part).table("number", "refused because") for part in parts]
+        self.header, self.entry = every_field(self.reader, page.section(LEFT), "Then an entry for each that stays, in the same order:")
+
+
+class Dropping(Checked):
+    """An archive and a list of job numbers, as these are dropped under a key and a tag key into a buffer."""
+
+    def __init__(self, dropper, key, tag_key, file, listed, buffer=bytes(65536)):
+        self.dropper, self.old = dropper, Reading(dropper.reader, key, tag_key, file)
+        self.tag_key, self.listed, self.buffer = tag_key, listed, buffer
+
+    def jobs(self):
+        """How many numbers are listed."""
+        return len(self.listed) // 8
+
+    def listed_at(self, k):
+        return self.listed[8 * k : 8 * k + 8]
+
+    def found(self):
+        """The entries that bear the number that is at hand."""
+        return [at for at in range(self.old.jobs()) if self.old.entry(at, "job number") == self.listed_at(self.index)]
+
+    def staying(self):
+        """The entries that stay, by their old places."""
+        listed = {self.listed_at(k) for k in range(self.jobs())}
+        return [at for at in range(self.old.jobs()) if self.old.entry(at, "job number") not in listed]
+
+    def lengths(self):
+        return [self.old.body(at)[1] for at in self.staying()]
+
+    def whole(self):
+        return 20 + 16 * len(self.staying()) + sum(self.lengths()) + (16 if self.old.number("layout") == 2 else 0)
+
+    def start(self):
+        """Where the body of the entry that is at hand starts then."""
+        return 20 + 16 * len(self.staying()) + sum(self.lengths()[: self.index])
+
+    def archive(self):
+        """The archive that is left. Of the keys this takes the tag key, and that in layout 2 alone."""
+        reader, directory, bodies = self.dropper.reader, b"", b""
+        for self.index, at in enumerate(self.staying()):
+            directory += filled(self, self.dropper.entry, reader.entry)
+            start, length = self.old.body(at)
+            bodies += self.old.file[start : start + length]
+        front = filled(self, self.dropper.header, reader.header) + directory + bodies
+        if self.old.number("layout") == 1:
+            return front
+        return front + tag_of(functools.partial(reader.encrypt, self.tag_key), front, reader.constant)
+
+    def dropped(self):
+        """The number of the first check that applies, or 0; and what stands in the buffer then."""
+        refused = self.old.refusal() or self.refusal_by(self.dropper)
+        if refused:
+            return refused, self.buffer
+        file = self.archive()
+        return 0, file + self.buffer[len(file) :]
+
+
+def lists_of(there):
+    """Lists for an archive of these jobs: good ones, and 27, 18 and 19 alone, beside each other and behind good numbers."""
+    every = b"".join(there)
+    none, absent = b"2400001/", b"44444444"
+    first, last = there[:1], there[-1:]
+    yield from (b"", every, b"".join(there[::-1]), every * 2, b"".join(first * 100 + last), b"".join(there[::2]), b"".join(there[1:]))
+    yield from (none, absent, none + absent, absent + none, every + none, every + absent, b"".join(last) + absent + none, bytes(8))
+    yield from (b"2400001", every + b"2", none + b"2400001", absent + none + b"2400001")
+
+
+def droppings(dropper):
+    """Keys, archives, lists and lengths of buffers: each archive of `trials`, accepted or not, with a list by turns; those that are
+    accepted with some more by turns; both samples with every list of up to three numbers, and buffers of every length."""
+    seen, by_turns = set(), list(lists_of([b"24000017", b"24000018"]))
+    for turn, (key, tag_key, file) in enumerate(trials()):
+        yield key, tag_key, file, by_turns[turn % len(by_turns)], (0, 36, 52, 99, 65536)[turn % 5]
+        reading = Reading(dropper.reader, key, tag_key, file)
+        if (key, tag_key, file) in seen or reading.refusal():
+            continue
+        seen.add((key, tag_key, file))
+        there = [reading.entry(index, "job number") for index in range(reading.jobs())]
+        every = 3 if len(file) < 3000 else 9
+        for step, listed in enumerate(list(lists_of(there))[len(seen) % every :: every]):
+            whole = Dropping(dropper, key, tag_key, file, listed).whole()
+            yield key, tag_key, file, listed, whole + (-1, 0, 9)[(turn + step) % 3]
+    numbers = b"24000017", b"24000018", b"24000019", b"2400001x"
+    for keys_and_file in (sample("sample"), sample("tagged")):
+        for chosen in itertools.chain.from_iterable(itertools.product(numbers, repeat=count) for count in range(4)):
+            yield from ((*keys_and_file, b"".join(chosen) + more, 80) for more in (b"", b"2", b"2400001"))
+        for listed in (b"", b"24000017", b"24000018", b"2400001824000017", b"24000019", b"2400001", b"2400001x"):
+            yield from ((*keys_and_file, listed, room) for room in range(80))
+
+
+def faults_of_dropping(page):
+    """By the page jobs are dropped as by the model, and what the page says of it is so."""
+    dropper, writer, met = Dropper(page, libcrypto.forward), Writer(page, libcrypto.forward), set()
+    for key, tag_key, file, listed, room in droppings(dropper):
+        buffer = b"\xa5" * room
+        given = Dropping(dropper, key, tag_key, file, listed, buffer).dropped()
+        wanted = archive.dropped_into(key, tag_key, file, listed, buffer)
+        met.add(wanted[0])
+        if given != wanted:
+            what = [part.hex() for part in (key, tag_key, file[:80], listed[:80])]
+            yield "by the page %d, by the model %d, or other bytes: %s, a buffer of %d" % (given[0], wanted[0], what, room)
+            return
+        if not wanted[0]:
+            yield from faults_of_dropped(dropper, writer, key, tag_key, file, listed, given[1])
+    if met != {0, 1, *range(5, 21), 24, 25, 27}:
+        yield "the archives and lists meet only the refusals %s" % sorted(met)
+    yield from faults_of_dropped_samples(page)
+    for sentence in DROPPING_SAYS:
+        if sentence not in page.text:
+            yield "it does not say: %s" % sentence
+
+
+def faults_of_dropped(dropper, writer, key, tag_key, file, listed, after):
+    """What is left is no longer than it was, is read again, and is what the writer makes of the jobs that stay; those that went are not
+    found. To write it takes no key but the tag key."""
+    length = int.from_bytes(after[16:20], "big")
+    left, gone = after[:length], {listed[at : at + 8] for at in range(0, len(listed), 8)}
+    what = "what is left of %s without %s" % (file[:80].hex(), listed[:80])
+    if length > len(file) or left != Dropping(dropper, b"", tag_key, file, listed).archive() or not listed and left != file:
+        yield "%s is longer, or takes a key" % what
+    if Reading(dropper.reader, key, tag_key, left).refusal() or left[4:8] != file[4:8]:
+        yield "%s is not accepted, or has another archive number" % what
+        return
+    if any(Reading(dropper.reader, key, tag_key, left, number).opened()[0] != 19 for number in gone):
+        yield "%s still has a job" % what
+    if length < 3000 and len(file) < 3000:
+        sheet, plain = own_sheet(dropper.reader, key, tag_key, file), opened_whole(dropper.reader, key, tag_key, file)
+        lines, rest, front = [sheet[at : at + 12] for at in range(5, len(sheet), 12)], b"", sheet[:5]
+        for line in lines:
+            size = int.from_bytes(line[8:], "big")
+            if line[:8] not in gone:
+                front, rest = front + line, rest + plain[:size]
+            plain = plain[size:]
+        if own_sheet(dropper.reader, key, tag_key, left) != front or opened_whole(dropper.reader, key, tag_key, left) != rest:
+            yield "%s does not list or open to the other jobs" % what
+        if Sealing(writer, key, tag_key, front, rest).archive() != left:
+            yield "%s is not what a writer makes of the other jobs" % what
+
+
+def faults_of_dropped_samples(page):
+    """Both samples by the page's own cipher too: the order of the list and how often a number is in it makes no difference, one number that
+    is missing leaves all as it was, and the old archive is accepted as before."""
+    by_page = Dropper(page, Aria(page).encrypted)
+    for folder in ("sample", "tagged"):
+        key, tag_key, file = sample(folder)
+        for numbers in (b"24000017", b"24000018"):
+            wanted = archive.dropped_into(key, tag_key, file, numbers, bytes(len(file)))
+            for listed in (numbers, numbers * 2, numbers * 65):
+                if Dropping(by_page, key, tag_key, file, listed, bytes(len(file))).dropped() != wanted:
+                    yield "by the page's cipher, examples/%s without %s is another" % (folder, listed.decode()[:16])
+        none = {Dropping(by_page, key, tag_key, file, listed).archive() for listed in (b"2400001724000018", b"2400001824000017")}
+        if {len(left) for left in none} != {36 if tag_key else 20} or len(none) != 1:
+            yield "examples/%s without its jobs is not %d bytes" % (folder, 36 if tag_key else 20)
+        if Dropping(by_page, key, tag_key, file, b"2400001724000019", bytes(99)).dropped() != (19, bytes(99)):
+            yield "a number that is missing does not refuse the list"
+        if Reading(by_page.reader, key, tag_key, file).listing() != read("crates/jobs/stdout"):
+            yield "the old archive of examples/%s is not accepted as before" % folder
+
+
 # ---- the project's definitions
 
 
@@ -1306,6 +1564,7 @@ def main():
         faults_of_tags,
         faults_of_reading,
         faults_of_sealing,
+        faults_of_dropping,
         faults_of_definitions,
         faults_of_computing,
         faults_of_paths,
@@ -1325,7 +1584,7 @@ def main():
         "the examples are the samples' and libcrypto's",
         "ARIA in short gives the RFC's vectors and the rule of CMAC libcrypto's tags",
         "so do the definitions",
-        "a reader and a writer by the page answer as the model",
+        "a reader, a writer and the dropping of jobs by the page answer as the model",
         "%d spans of bytes keep the rule" % spans,
         "the commands were run" if runs_commands() else "the commands were not run, for want of openssl or xxd",
     ]

@@ -1,4 +1,4 @@
-"""The rules of the dryer archive, read straight from document 01, with document 02's requests a, b, d, e and f.
+"""The rules of the dryer archive, read straight from document 01, with document 02's requests a, b, d, e, f, g and j.
 
 A model for tests: plain Python over whole numbers and bytes, written apart from the proved code and
 sharing nothing with it. Refusals carry the documents' numbers. Layout 2, which ends in a tag, is request d's;
@@ -19,6 +19,8 @@ MOST_JOBS = 64
 # A job sheet: its front, and then so many bytes a job.
 SHEET = 5
 LINE = 12
+# A list of job numbers: so many bytes a number.
+NUMBER = 8
 
 Entry = namedtuple("Entry", "digits start length")
 Line = namedtuple("Line", "digits length")
@@ -245,6 +247,48 @@ def plain_of(key, tag_key, file):
     return b"".join(plain_bytes(key, tag_key, file, entry.digits) for entry in entries_of(file))
 
 
+@functools.lru_cache(maxsize=256)
+def dropped(key, tag_key, file, listed):
+    """The archive without the jobs whose numbers are listed, eight bytes each; one that is listed twice counts once. Refusals of
+    `check`, then 27, then 18 and 19 number by number. No body is opened: what is left of the sealed bytes moves up."""
+    check(key, tag_key, file)
+    refuse_if(len(listed) % NUMBER != 0, 27)
+    entries = entries_of(file)
+    there = [entry.digits for entry in entries]
+    gone = [listed[at : at + NUMBER] for at in range(0, len(listed), NUMBER)]
+    for number in gone:
+        refuse_if(not all_digits(number), 18)
+        refuse_if(number not in there, 19)
+    left = [entry for entry in entries if entry.digits not in gone]
+
+    contents = bodies = b""
+    for entry in left:
+        start = PLATE + ENTRY * len(left) + len(bodies)
+        contents += entry.digits + start.to_bytes(4, "big") + entry.length.to_bytes(4, "big")
+        bodies += file[entry.start : entry.start + entry.length]
+    whole_length = PLATE + len(contents) + len(bodies) + (TAG if tag_key else 0)
+    # layout, key length, archive number and key check stay
+    plate = file[0:2] + len(left).to_bytes(2, "big") + file[4:16] + whole_length.to_bytes(4, "big")
+    front = plate + contents + bodies
+    return front + cmac.tag(tag_key, front) if tag_key else front
+
+
+def drop(key, tag_key, file, listed, room=LONGEST_FILE):
+    """The archive without the jobs listed. Refusals of `dropped`, then 20 where a buffer of `room` bytes is too short for it."""
+    smaller = dropped(key, tag_key, file, listed)
+    refuse_if(room < len(smaller), 20)
+    return smaller
+
+
+def dropped_into(key, tag_key, file, listed, buffer):
+    """The refusal of dropping into a buffer or 0, and what the buffer holds then."""
+    try:
+        smaller = drop(key, tag_key, file, listed, len(buffer))
+    except Refused as refused:
+        return refused.number, buffer
+    return 0, smaller + buffer[len(smaller) :]
+
+
 def jobs_text(key, tag_key, file):
     """What the program `jobs` prints."""
     try:
@@ -273,3 +317,17 @@ def seal_output(key_file, tag_key, sheet, plain):
         return seal(key_file, tag_key, sheet, plain), b""
     except Refused as refused:
         return b"refused %d\n" % refused.number, b""
+
+
+def list_of(words):
+    """The list that the program `drop` makes of its words. One that has not eight bytes becomes eight zero bytes, so that 18
+    comes in its place, and a longer one is never two numbers."""
+    return b"".join(word if len(word) == NUMBER else bytes(NUMBER) for word in words)
+
+
+def drop_output(key, tag_key, file, *words):
+    """What the program `drop` writes, standard output and standard error, of the job numbers that are its words."""
+    try:
+        return drop(key, tag_key, file, list_of(words)), b""
+    except Refused as refused:
+        return b"", b"refused %d\n" % refused.number

@@ -1,4 +1,4 @@
-"""Calls what `rt staticlib benchlib` exports, in this process: a shared library is made of it. ranges.py and sealing.py use it.
+"""Calls what `rt staticlib benchlib` exports, in this process, through a shared library made of it. For ranges.py, sealing.py, dropping.py.
 
 Buffers begin at every place in memory modulo 16, and bytes before and behind them, which nobody lent, are watched.
 """
@@ -35,6 +35,7 @@ class Library:
             "bench_open": 4 * part + lent,
             "bench_open_range": 4 * part + [size, size] + lent,
             "bench_seal": 4 * part + lent,
+            "bench_drop": 4 * part + lent,
             "bench_ctr": 2 * part + [size] + lent,
         }
         for name, types in arguments.items():
@@ -63,6 +64,9 @@ class Library:
 
     def sealed(self, case, room):
         return self.lend("bench_seal", sized(*case.lent()), FILL * room)
+
+    def dropped(self, case, listed, room):
+        return self.lend("bench_drop", sized(*case.lent(), listed), FILL * room)
 
     def streamed(self, key, prefix, first, run):
         return self.lend("bench_ctr", (*sized(key, prefix), first), run)

@@ -1,16 +1,17 @@
-"""Holds the programs `jobs`, `open` and `seal` to the model.
+"""Holds the programs `jobs`, `open`, `seal` and `drop` to the model.
 
-    python3 tests/model/run.py --jobs target/bin/jobs [--open target/bin/open [--seal target/bin/seal]] [--seed N]
+    python3 tests/model/run.py --jobs target/bin/jobs [--open target/bin/open [--seal target/bin/seal] [--drop target/bin/drop]] [--seed N]
 
 Runs the model's self-test first. Each case is one run of a program in a folder of its own, with the
 archive, or what is to be sealed, as a file or through a pipe in turn; some go through a slow pipe in small
 pieces. Every byte written is compared. What `seal` wrote is then listed by `jobs` and opened by `open`, and
-every accepted archive is sealed again from its own jobs. The last line is `archive model: N cases agree`, or
-says how many differ, and then the exit status is 1.
+so is some of what `drop` wrote; every accepted archive is sealed again from its own jobs. The last line is
+`archive model: N cases agree`, or says how many differ, and then the exit status is 1.
 
-Refusal 20 is not met here: no body and no archive is longer than 65,536 bytes, and `open` and `seal` lend that
-much. ranges.py, sealing.py and the program `known_answers` meet it. What the programs do where reading or
-writing fails, and of words that they do not take, is tests/programs.
+Refusal 20 is not met here: no body and no archive is longer than 65,536 bytes, and `open`, `seal` and `drop`
+lend that much. ranges.py, sealing.py, dropping.py and the program `known_answers` meet it. Nor is 27: `drop`
+makes eight bytes of each of its words. What the programs do where reading or writing fails, and of words that
+they do not take, is tests/programs.
 """
 
 import argparse
@@ -20,6 +21,7 @@ import unittest
 
 import archive
 import cases
+import lists
 import selftest
 import sheets
 from program import Program, Written
@@ -67,6 +69,10 @@ def expected_of_open(case, words):
 
 def expected_of_seal(case):
     return Written(*archive.seal_output(*case.lent()), 0)
+
+
+def expected_of_drop(case, words):
+    return Written(*archive.drop_output(*case.lent(), *words), 0)
 
 
 def in_turn(program, turn, case, arguments=()):
@@ -132,6 +138,22 @@ def words_to_ask(case, turn):
     return whole + [(entry.digits, *decimal(first, left + 1 if turn % 9 == 0 else left - turn * 5 % max(left, 1)))]
 
 
+def no_numbers():
+    """Words that are no job numbers (18)."""
+    words = [b"", b"2", b"2400001", b"240000170", b"24000017 ", b" 24000017", b"24000017\n"]
+    words += [b"+2400017", b"-2400017", b"0x240000", b"24.00017", b"abcdefgh", b"2" * 16, b"2" * 5000]
+    words += ["２４００００１７".encode(), b"\xff" * 8]
+    for at in range(8):
+        for byte in (0x2F, 0x3A, 0x01, 0xB0):
+            words.append(b"24000017"[:at] + bytes([byte]) + b"24000017"[at + 1 :])
+            words.append(b"24000017"[:at] + b"24000017"[at + 1 :])
+    return list(dict.fromkeys(words))
+
+
+# Job numbers that three jobs do not have (19).
+ABSENT = [b"24000016", b"24000020", b"00000000", b"99999999", b"14000017", b"24000117", b"25000017"]
+
+
 def questions():
     """Numbers that are none (18) or absent (19), on a good archive and on one that is refused itself, and some of them
     beside a tag, right or wrong; every job of a full one; and every job of one whose numbers lie apart, with the
@@ -139,18 +161,10 @@ def questions():
     good = cases.three_jobs()
     refused = cases.three_jobs()
     refused.tail = b"\0"
-    numbers = [b"", b"2", b"2400001", b"240000170", b"24000017 ", b" 24000017", b"24000017\n"]
-    numbers += [b"+2400017", b"-2400017", b"0x240000", b"24.00017", b"abcdefgh", b"2" * 16, b"2" * 5000]
-    numbers += ["２４００００１７".encode(), b"\xff" * 8]
-    for at in range(8):
-        for byte in (0x2F, 0x3A, 0x01, 0xB0):
-            numbers.append(b"24000017"[:at] + bytes([byte]) + b"24000017"[at + 1 :])
-            numbers.append(b"24000017"[:at] + b"24000017"[at + 1 :])
-    absent = [b"24000016", b"24000020", b"00000000", b"99999999", b"14000017", b"24000117", b"25000017"]
-    for number in dict.fromkeys(numbers + absent):
+    for number in no_numbers() + ABSENT:
         yield good.case("three jobs", 0), number
         yield refused.case("three jobs and a byte", 17), number
-    for number in [b"", b"2400001", b"240000170", b"2400001/", b"2" * 5000] + absent:
+    for number in [b"", b"2400001", b"240000170", b"2400001/", b"2" * 5000] + ABSENT:
         yield cases.three_jobs(cases.TAG_KEY).case("three jobs, tagged", 0), number
         yield cases.wrong_tag(), number
     many = cases.Draft(cases.KEYS[24], 7, cases.numbered(range(64)))
@@ -255,9 +269,8 @@ def run_seal(path, all_sheets, all_cases, comparison):
     return archives
 
 
-def listed(case):
-    """What `jobs` is to print of what was sealed: the jobs are the sheet's."""
-    lines = archive.lines_of(case.sheet)
+def listed(lines):
+    """What `jobs` is to print of an archive of jobs of these digits and lengths."""
     text, start = b"jobs %d\n" % len(lines), archive.PLATE + archive.ENTRY * len(lines)
     for line in lines:
         text += b"%s %d %d\n" % (line.digits, start, line.length)
@@ -278,10 +291,130 @@ def run_sealed(jobs_path, open_path, archives, comparison):
     with Program(jobs_path) as jobs, Program(open_path) as opening:
         for turn, (case, file) in enumerate(archives):
             whole = cases.Case(case.name, case.key_file[: sheets.KEY_LENGTHS[case.sheet[0]]], file, 0, case.tag_key)
-            comparison.note("jobs, sealed", whole, Written(listed(case), b"", 0), in_turn(jobs, turn, whole))
+            comparison.note("jobs, sealed", whole, Written(listed(archive.lines_of(case.sheet)), b"", 0), in_turn(jobs, turn, whole))
             for number, plain in opened_again(case):
                 written = in_turn(opening, turn, whole, (number,))
                 comparison.note("open %s, sealed" % number.decode(), whole, Written(plain, b"", 0), written)
+
+
+# Words for `drop` where the archive is refused, whatever they are.
+ANY_WORDS = [(b"24000017",), (b"44444444",), (b"2400001",), (b"24000018", b"24000017"), (b"2400001/", b"24000017")]
+
+
+def words_of(made):
+    """The words that list these numbers, or None where `drop` takes no such words."""
+    words = tuple(lists.numbers_in(made.listed))
+    return words if made.refusal != 27 and 0 < len(words) <= archive.MOST_JOBS else None
+
+
+def words_to_drop(case, turn):
+    """Words for `drop` by turns: two good lists, and one that is refused. Of no jobs every list but that of no words is refused."""
+    try:
+        archive.check(*case.lent())
+    except archive.Refused:
+        return [ANY_WORDS[turn % len(ANY_WORDS)]]
+    there = lists.there_in(case.file)
+    good = list(filter(None, map(words_of, lists.good(there))))
+    bad = list(filter(None, (words_of(made) for made in lists.orders(there) if made.refusal)))
+    return [good[(turn + step) % len(good)] for step in (0, 5) if good] + [bad[turn % len(bad)]]
+
+
+def drop_questions():
+    """Words that are no numbers, alone, behind a number that is there and beside one that is not, in either order; some of them where there
+    is a tag, right or wrong. Words that are numbers only end to end, or cut off: nothing is dropped. Up to 64 words, the last one good or
+    not, in every order and as often as may be."""
+    good = cases.three_jobs().case("three jobs", 0)
+    first, second, third = there = lists.there_in(good.file)
+    for word in no_numbers():
+        yield from ((good, words) for words in ((word,), (first, word), (word, third), (word, ABSENT[0]), (ABSENT[0], word)))
+    for word in ABSENT + [b"", b"2400001", b"240000170", first + second, b"2" * 5000]:
+        for case in (cases.three_jobs(cases.TAG_KEY).case("three jobs, tagged", 0), cases.wrong_tag()):
+            yield from ((case, words) for words in ((word,), (third, first, word)))
+    for words in (
+        (first + second,),
+        (third, first + second),
+        (first + second, third),
+        (first + second + third,),
+        (first[:7], first[7:] + second),
+        (first + second[:1], second[1:]),
+        (first[:4], first[4:]),
+        (b"", first),
+        (first, b""),
+        (first + b" " + second,),
+        (first * 8,),
+        (first * 625,),
+        (b"", b"", b"", b"", b"", b"", b"", b""),
+    ):
+        yield good, words
+    for case in (good, cases.three_jobs(cases.TAG_KEY).case("three jobs, tagged", 0)):
+        yield from ((case, words_of(made)) for made in lists.every_one(there) if made.listed)
+    for tag_key in (None, cases.TAG_KEYS[16]):
+        many = cases.Draft(cases.KEYS[24], 7, cases.numbered(range(64)), tag_key).case("64 jobs", 0)
+        numbers = tuple(lists.there_in(many.file))
+        for last in (numbers[63], numbers[0], b"44444444", b"2400008/", b"2400008", b"", numbers[63] * 2):
+            yield many, numbers[:63] + (last,)
+            yield many, numbers[:1] * 63 + (last,)
+        yield many, numbers[::-1]
+        yield many, numbers[:32] * 2
+        yield many, numbers[:63]
+    yield good, (second,) * 64
+    empty = cases.Draft(cases.KEYS[16], 7, []).case("no jobs", 0)
+    yield empty, (first,)
+    yield empty, (b"",)
+
+
+def asked_of_drop(all_cases):
+    """Every case and the words for `drop`, in the order of the runs."""
+    for turn, case in enumerate(all_cases):
+        yield from ((case, words) for words in words_to_drop(case, turn))
+    yield from drop_questions()
+
+
+def dropped_slowly():
+    """For `drop` through a slow pipe."""
+    return [(case, piece, words) for turn, (case, piece) in enumerate(SLOW) for words in words_to_drop(case, turn)]
+
+
+def to_look_at(runs):
+    """Every third of the runs that are to write an archive, for `jobs` and `open` to look at. A run begins with its case and its words."""
+    return [run for run in runs if run[0].refusal == 0 and set(run[1]) <= set(lists.there_in(run[0].file))][::3]
+
+
+def run_drop(path, all_cases, comparison):
+    """Answers what is to be looked at: the case, the words, and what the program wrote of them."""
+    runs = []
+    with Program(path) as program:
+        for turn, (case, words) in enumerate(asked_of_drop(all_cases)):
+            written = in_turn(program, turn, case, words)
+            comparison.note("drop %s" % (tuple(word[:40] for word in words[:8]),), case, expected_of_drop(case, words), written)
+            runs.append((case, words, written.stdout))
+        for case, piece, words in dropped_slowly():
+            written = program.from_pipe(case.files(), case.file, piece, words)
+            comparison.note("drop %s, slow pipe" % (words[:8],), case, expected_of_drop(case, words), written)
+    return to_look_at(runs)
+
+
+def left_in(case, words):
+    """The entries that dropping leaves."""
+    return [entry for entry in archive.entries_of(case.file) if entry.digits not in words]
+
+
+def opened_afterwards(case, words):
+    """Of the jobs that are left the first, the middle and the last two, each with its plain bytes; and one that is gone."""
+    left = left_in(case, words)
+    for index in some_of(len(left)):
+        yield left[index].digits, Written(archive.plain_bytes(*case.lent(), left[index].digits), b"", 0)
+    yield words[0], Written(b"", b"refused 19\n", 0)
+
+
+def run_dropped(jobs_path, open_path, archives, comparison):
+    """`jobs` and `open` on what `drop` wrote."""
+    with Program(jobs_path) as jobs, Program(open_path) as opening:
+        for turn, (case, words, file) in enumerate(archives):
+            smaller = case._replace(file=file)
+            comparison.note("jobs, dropped", smaller, Written(listed(left_in(case, words)), b"", 0), in_turn(jobs, turn, smaller))
+            for number, expected in opened_afterwards(case, words):
+                comparison.note("open %s, dropped" % number.decode(), smaller, expected, in_turn(opening, turn, smaller, (number,)))
 
 
 def main():
@@ -289,10 +422,11 @@ def main():
     parser.add_argument("--jobs", required=True, help="the program jobs")
     parser.add_argument("--open", help="the program open")
     parser.add_argument("--seal", help="the program seal; what it writes is opened by open")
+    parser.add_argument("--drop", help="the program drop; what it writes is opened by open")
     parser.add_argument("--seed", type=int, help="repeats the random cases of an earlier run")
     options = parser.parse_args()
-    if options.seal and not options.open:
-        parser.error("--seal needs --open")
+    if (options.seal or options.drop) and not options.open:
+        parser.error("--seal and --drop need --open")
 
     tests = unittest.defaultTestLoader.loadTestsFromModule(selftest)
     if not unittest.TextTestRunner(stream=sys.stdout).run(tests).wasSuccessful():
@@ -310,6 +444,9 @@ def main():
         all_sheets = [*sheets.made(), *sheets.changes(), *sheets.random_sheets(seed, RANDOM_SHEETS)]
         archives = run_seal(options.seal, all_sheets, all_cases, comparison)
         run_sealed(options.jobs, options.open, archives, comparison)
+    if options.drop:
+        archives = run_drop(options.drop, all_cases, comparison)
+        run_dropped(options.jobs, options.open, archives, comparison)
     if comparison.differed:
         sys.stdout.flush()
         total = comparison.agreed + comparison.differed

@@ -11,6 +11,7 @@ import archive
 import cases
 import cmac
 import libcrypto
+import lists
 import sheets
 import stored
 from records import records
@@ -389,6 +390,128 @@ class Sealing(unittest.TestCase):
             wanted = (20, bytes(room)) if room < 57 else (0, self.FILE + bytes(room - 57))
             self.assertEqual(archive.sealed_into(self.KEY, b"", self.SHEET, b"dried", bytes(room)), wanted)
             self.assertEqual(archive.sealed_into(self.KEY, b"", self.SHEET, b"dried.", bytes(room)), (17, bytes(room)))
+
+
+class Dropping(unittest.TestCase):
+    """Document 02, g."""
+
+    KEY, TAG_KEY = Tagged.KEY, Tagged.TAG_KEY
+    FILE = Sealing.FILE
+    # worked by hand: what each list leaves of the archive of layout 1, from the plate's count of jobs on
+    LEFT = {
+        b"24000017": "0001 00000007685c678e545d7b37 00000024  3234303030303138 00000024 00000000",
+        b"24000018": "0001 00000007685c678e545d7b37 00000029  3234303030303137 00000024 00000005  71a8932aa6",
+        b"2400001724000018": "0000 00000007685c678e545d7b37 00000014",
+    }
+
+    def accepted(self):
+        """The archives that are accepted, and their job numbers."""
+        for case in cases.made():
+            if case.refusal == 0:
+                yield case, lists.there_in(case.file)
+
+    def test_a_small_archive(self):
+        for listed, left in self.LEFT.items():
+            plain = b"\1\x10" + bytes.fromhex(left)
+            self.assertEqual(archive.drop(self.KEY, b"", self.FILE, listed), plain)
+            front = b"\2" + plain[1:19] + bytes([plain[19] + 16]) + plain[20:]
+            tagged = front + libcrypto.cmac(self.TAG_KEY, front)
+            self.assertEqual(archive.drop(self.KEY, self.TAG_KEY, Tagged.FILE, listed), tagged)
+            self.assertEqual(archive.drop_output(self.KEY, self.TAG_KEY, Tagged.FILE, listed[:8], listed[-8:]), (tagged, b""))
+        self.assertEqual(archive.drop(self.KEY, b"", self.FILE, b"24000018" + b"24000017" * 2), plain)
+
+    def test_nothing_dropped_is_the_same_archive(self):
+        seen = {1: 0, 2: 0}
+        for case, _ in self.accepted():
+            self.assertEqual(archive.drop(*case.lent(), b""), case.file, case.name)
+            seen[case.file[0]] += 1
+        self.assertGreater(min(seen.values()), 100)
+
+    def test_it_is_the_sheet_without_them_sealed(self):
+        """Byte for byte, in whatever order and however often they are listed."""
+        for turn, (case, there) in enumerate(self.accepted()):
+            key, tag_key, file = case.lent()
+            sheet, good = archive.sheet_of(file), list(lists.good(there))
+            lines = [sheet[at : at + archive.LINE] for at in range(archive.SHEET, len(sheet), archive.LINE)]
+            for made in good[turn % 4 :: 4] if len(file) < 10000 else good[turn % len(good) :][:1]:
+                left = [line for line in lines if line[:8] not in lists.numbers_in(made.listed)]
+                plain = b"".join(archive.plain_bytes(key, tag_key, file, line[:8]) for line in left)
+                sealed = archive.seal(key, tag_key, sheet[: archive.SHEET] + b"".join(left), plain)
+                self.assertEqual(archive.drop(key, tag_key, file, made.listed), sealed, (case.name, made.name))
+
+    def test_each_list_has_the_answer_it_was_made_for(self):
+        met = set()
+        for tag_key in (None, cases.TAG_KEY):
+            for case in lists.archives(tag_key):
+                there = lists.there_in(case.file)
+                for made in lists.made(there):
+                    self.assertEqual(refusal(archive.drop, *case.lent(), made.listed), made.refusal, (case.name, made.name))
+                    met.add(made.refusal)
+                names = [made.name for made in lists.made(there)]
+                self.assertEqual(len(names), len(set(names)))
+        self.assertEqual(met, {0, 18, 19, 27})
+
+    def test_the_archive_s_own_refusal_comes_first(self):
+        met = set()
+        for case in cases.made():
+            for made in lists.KINDS if case.refusal else ():
+                self.assertEqual(refusal(archive.drop, *case.lent(), made.listed, 0), case.refusal, (case.name, made.name))
+                met.add(case.refusal)
+        self.assertEqual(met, {1, 24, 25} | set(range(5, 18)))
+
+    def test_each_refusal_before_those_behind_it(self):
+        """From good things, one fault more at a time, the last of the order first."""
+        right = [self.KEY, self.TAG_KEY, Tagged.FILE, b"24000018", 57]
+        self.assertEqual(refusal(archive.drop, *right), 0)
+        for wanted, at, value in (
+            (20, 4, 56),
+            (19, 3, b"24000018" + b"24000019"),
+            (19, 3, b"24000018" + b"24000019" + b"2400001/"),
+            (18, 3, b"24000018" + b"2400001/" + b"24000019"),
+            (18, 3, bytes(8) + b"24000019" + b"2400001/"),
+            (27, 3, bytes(8) + b"24000019" + b"2400001/" + b"2"),
+            (27, 3, b"24000019" + b"2400001"),
+            (25, 2, Tagged.FRONT + bytes(16)),
+            (24, 1, b""),
+            (1, 0, self.KEY[:15]),
+        ):
+            right[at] = value
+            self.assertEqual(refusal(archive.drop, *right), wanted, (wanted, value))
+
+    def test_dropping_again(self):
+        """What is gone is not there; and jobs that were listed one after the other are gone as if by one list."""
+        for case, there in self.accepted():
+            if 0 < len(there) < 10 and len(case.file) < 10000:
+                key, tag_key, file = case.lent()
+                without = archive.drop(key, tag_key, file, there[0])
+                self.assertEqual(refusal(archive.drop, key, tag_key, without, there[0]), 19, case.name)
+                self.assertEqual(refusal(archive.drop, key, tag_key, without, there[-1] + there[0]), 19, case.name)
+                if len(there) > 1:
+                    both = archive.drop(key, tag_key, file, there[-1] + there[0])
+                    self.assertEqual(archive.drop(key, tag_key, without, there[-1]), both, case.name)
+
+    def test_words(self):
+        """A word of eight bytes is a number or none; of any other length it is none, and never two numbers."""
+        words = [b"24000017", b"2400001", b"abcdefgh", b"240000170", b""]
+        self.assertEqual(archive.list_of(words), b"24000017" + bytes(8) + b"abcdefgh" + bytes(16))
+        for number, words in (
+            (18, [b"2400001724000018"]),
+            (18, [b"2400001", b"724000018"]),
+            (18, [b"24000017", b""]),
+            (19, [b"24000019", b""]),
+            (18, [b"2" * 5000, b"24000019"]),
+        ):
+            self.assertEqual(archive.drop_output(self.KEY, b"", self.FILE, *words), (b"", b"refused %d\n" % number))
+            self.assertEqual(archive.drop_output(self.KEY, b"", b"", *words), (b"", b"refused 5\n"))
+
+    def test_buffers(self):
+        """The new archive is measured, not the old one."""
+        for listed, length in ((b"", 57), (b"24000017", 36), (b"24000018", 41), (b"2400001724000018", 20)):
+            for room in range(100):
+                file = archive.drop(self.KEY, b"", self.FILE, listed)
+                wanted = (20, bytes(room)) if room < length else (0, file + bytes(room - length))
+                self.assertEqual(archive.dropped_into(self.KEY, b"", self.FILE, listed, bytes(room)), wanted)
+                self.assertEqual(archive.dropped_into(self.KEY, b"", self.FILE, listed + b"2", bytes(room)), (27, bytes(room)))
 
 
 class Searching(unittest.TestCase):

@@ -1,6 +1,6 @@
-"""Holds the programs `jobs`, `open` and `seal` to what they say when reading or writing fails, at a terminal, and of their words.
+"""Holds the programs `jobs`, `open`, `seal` and `drop` to what they say when reading or writing fails, at a terminal, and of their words.
 
-    python3 tests/programs/run.py --jobs target/bin/jobs --open target/bin/open --seal target/bin/seal
+    python3 tests/programs/run.py --jobs target/bin/jobs --open target/bin/open --seal target/bin/seal --drop target/bin/drop
 
 Each case runs a program on a sample archive, of layout 1 unless its name says otherwise, or `seal` on the sheet and the plain bytes that
 the sample is made of, in a folder of its own and compares standard output, standard error and the way it ended. Faults that a file cannot
@@ -33,6 +33,13 @@ from program import Written, finished  # noqa: E402
 def content(folder, name):
     with open(os.path.join(folder, name), "rb") as file:
         return file.read()
+
+
+def without(folder, *numbers):
+    """The archive of a sample without these jobs, by the model."""
+    tag_key = content(folder, "tag.bin") if folder == TAGGED else b""
+    listed = "".join(numbers).encode()
+    return archive.drop(content(folder, "key.bin"), tag_key, content(folder, "archive.bin"), listed)
 
 
 # What a program reads from standard input: a file of the sample, places in it, how many bytes a good one may have, and the refusals of
@@ -78,7 +85,20 @@ SEAL = Says(
     b"under key.bin of this folder and, if there, tag.bin\n",
     PLAIN,
 )
-PROGRAMS = [JOBS, OPEN, OPEN_RANGE, SEAL]
+DROP = Says(
+    "drop",
+    ("24000017",),
+    without(SAMPLE, "24000017"),
+    b"drop: could not read\n",
+    b"drop: could not write\n",
+    b"usage: drop NUMBER.. < ARCHIVE > SMALLER\n"
+    b"drops these jobs, 1 to 64 numbers of eight digits, and writes the archive without them, "
+    b"under key.bin and, if there, tag.bin\n",
+    ARCHIVE,
+)
+# The same program, asked to drop all jobs, and one of them twice.
+DROP_ALL = DROP._replace(words=("24000018", "24000017", "24000018"), output=without(SAMPLE, "24000017", "24000018"))
+PROGRAMS = [JOBS, OPEN, OPEN_RANGE, SEAL, DROP, DROP_ALL]
 # A sheet that asks for as many plain bytes as an archive holds.
 LONGEST_SHEET = b"\x10" + bytes(4) + b"24000017" + PLAIN.longest.to_bytes(4, "big")
 
@@ -90,10 +110,14 @@ PATIENCE = 10
 NOT_OPENED = (errno.EACCES, errno.EINTR, errno.EIO, errno.EMFILE, errno.ENFILE, errno.ENOTDIR, errno.EPERM)
 
 
+# Programs that keep standard output for what was asked of them, and write a refusal's line to standard error.
+REFUSE_ON_STDERR = ("open", "drop")
+
+
 def refused(says, number):
-    """A refusal's line: `jobs` and `seal` print it, `open` keeps standard output for plain bytes."""
+    """A refusal's line, where the program writes it."""
     line = b"refused %d\n" % number
-    return Written(b"", line, 0) if says.name == "open" else Written(line, b"", 0)
+    return Written(b"", line, 0) if says.name in REFUSE_ON_STDERR else Written(line, b"", 0)
 
 
 class Folder:
@@ -206,7 +230,7 @@ def writing(says):
         return to_full(f)
 
     yield "output to /dev/full", failed, to_full
-    if says.name != "open":
+    if says.name not in REFUSE_ON_STDERR:
         yield "a refusal to /dev/full", failed, refusal_to_full
     yield "standard output closed", failed, lambda f: f.run(says.words, stdout=None, shell=">&-")
     yield "standard output open for reading only", failed, lambda f: f.run(says.words, stdout=None, shell="1<archive.bin")
@@ -332,8 +356,11 @@ def tag_files(says):
     bad one: so an archive of layout 1, which is read where there is no tag key, gets 1 as well."""
     right = content(TAGGED, "tag.bin")
     good, mismatch = Written(says.output, b"", 0), refused(says, 24)
-    # what is written on the sample of each layout, without a tag key and under the right one; `seal` has the same of both
+    # what is written on the sample of each layout, without a tag key and under the right one; `seal` has the same of both, and `drop`
+    # tags again what is left
     none, under = {1: good, 2: mismatch}, {1: mismatch, 2: good}
+    if says.name == "drop":
+        under = {1: mismatch, 2: Written(without(TAGGED, *says.words), b"", 0)}
     if says is SEAL:
         none, under = {1: good}, {1: Written(content(TAGGED, "archive.bin"), b"", 0)}
 
@@ -536,9 +563,72 @@ def words_of_ranges(says):
     yield "a range of a number that is none", refused(says, 18), lambda f: f.run(["2400001", "9", "9"])
 
 
+def words_of_drop(says):
+    """From 1 to 64 words; each that has not eight bytes is no number, whatever stands beside it."""
+    usage = Written(b"", says.usage, 0)
+    first, second, other = "24000017", "24000018", "24000019"
+    for name, words in (
+        ("no word", []),
+        ("65 words", [first] * 65),
+        ("65 words of no bytes", [""] * 65),
+        ("65 words, the last no number", [first] * 64 + ["--help"]),
+        ("66 words", [first, second] * 33),
+        ("128 words", [first] * 128),
+        ("257 words", [first] * 257),
+        ("1000 words", [second] * 1000),
+    ):
+        yield name, usage, lambda f, words=words: f.run(words)
+        yield "%s, nothing read" % name, usage, lambda f, words=words: unread(f, words)
+        yield "%s, at a terminal" % name, usage, lambda f, words=words: at_terminal(f, words, b"\x04")
+    for name, words, wanted in (
+        ("63 words", [second] * 63, without(SAMPLE, second)),
+        ("64 words", [first] * 64, without(SAMPLE, first)),
+        ("64 words, the last another", [first] * 63 + [second], without(SAMPLE, first, second)),
+        ("a job of no bytes", [second], without(SAMPLE, second)),
+        ("both jobs", [first, second], without(SAMPLE, first, second)),
+    ):
+        yield name, Written(wanted, b"", 0), lambda f, words=words: f.run(words)
+    wrong = ["", " ", "-", "--help", "2400001", "2400001 ", "240000170", "2400001/", first + second, second * 2, "2" * 5000, b"\xff" * 8]
+    for word in wrong:
+        yield "word %.20r" % word, refused(says, 18), lambda f, word=word: f.run([word])
+        yield "word %.20r behind a number" % word, refused(says, 18), lambda f, word=word: f.run([first, word])
+        yield "word %.20r before a number" % word, refused(says, 18), lambda f, word=word: f.run([word, first])
+        yield "word %.20r before a number that is not there" % word, refused(says, 18), lambda f, word=word: f.run([word, other])
+        yield "word %.20r behind a number that is not there" % word, refused(says, 19), lambda f, word=word: f.run([other, word])
+    for name, words, number in (
+        ("a number that is not there", [other], 19),
+        ("a number behind the jobs that is not there", [first, second, other], 19),
+        ("two words, a number end to end", [first[:4], first[4:]], 18),
+        ("two words, two numbers end to end", [first[:7], first[7:] + second], 18),
+        ("64 words, the last not there", [first] * 63 + [other], 19),
+        ("64 words, the last no number", [first] * 63 + [first[:7]], 18),
+        ("64 words of no bytes", [""] * 64, 18),
+    ):
+        yield name, refused(says, number), lambda f, words=words: f.run(words)
+
+
+def several_words(says):
+    """The archive's refusals come before all that is wrong with the words, and no word changes what is read."""
+    for words in (["24000019"], ["2400001"], ["", "24000019"], ["24000017" * 2], ["24000019"] * 64):
+        yield "an empty archive, words %.60s" % words, refused(says, 5), lambda f, words=words: f.run(words, stdin=subprocess.DEVNULL)
+        for name, made, number in (("key.bin", None, 1), ("tag.bin", bytes(15), 1), ("tag.bin", bytes(16), 24)):
+            what = "%s of %d bytes" % (name, len(made)) if made else "no %s" % name
+            yield "%s, words %.60s" % (what, words), refused(says, number), with_file(name, made, says._replace(words=words))
+        yield "input error, words %.60s" % words, Written(b"", says.could_not_read, 0), (
+            lambda f, words=words: f.run(words, fault=("read", 0, 20, errno.EIO, 1))
+        )
+
+
 def cases(says):
     """Each case of a program: its name, what is to be written, and how it is run in a folder."""
-    own = {JOBS: [words_not_taken], OPEN: [words_of_open], OPEN_RANGE: [words_of_ranges], SEAL: [words_not_taken, sheet_files]}[says]
+    own = {
+        JOBS: [words_not_taken],
+        OPEN: [words_of_open],
+        OPEN_RANGE: [words_of_ranges],
+        SEAL: [words_not_taken, sheet_files],
+        DROP: [words_of_drop],
+        DROP_ALL: [several_words],
+    }[says]
     for group in (whole, writing, reading, key_files, tag_files, terminals, *own):
         yield from group(says)
 
@@ -548,6 +638,7 @@ def main():
     parser.add_argument("--jobs", required=True)
     parser.add_argument("--open", required=True)
     parser.add_argument("--seal", required=True)
+    parser.add_argument("--drop", required=True)
     options = parser.parse_args()
     agreed = differed = 0
     with tempfile.TemporaryDirectory(prefix="programs-") as built:

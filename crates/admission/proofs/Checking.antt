@@ -2,7 +2,7 @@
 -- answers of key preparation as the first of them.
 -- Assumes nothing.
 use mathlib.Core.Path.{_≡_, refl, sym, ap, _∙_}
-use mathlib.Core.Bool.{Bool, true, not, _&&_}
+use mathlib.Core.Bool.{Bool, true, false, not, cond, _&&_}
 use mathlib.Core.List.{List, [], _∷_, _++_, append-assoc}
 use Prim.Native.Nat.{ℕ}
 use denote.Enum.Declared.{tagOf}
@@ -10,9 +10,9 @@ use types.Run.{OneOf}
 use lib.Dec.{eqb}
 use lib.ListN.{length}
 use Rattle.refusals.specs.Cases.{firstOf, positive, lacks}
-use Rattle.refusals.specs.Shared.{keyCases, tagKeyCases}
+use Rattle.refusals.specs.Shared.{goodKey, keyCases, tagKeyCases}
 use Rattle.refusals.proofs.Booleans.{both-true}
-use Rattle.refusals.proofs.Shared.{key-positive, key-lacks, tag-key-positive, tag-key-lacks}
+use Rattle.refusals.proofs.Shared.{key-0, key-positive, key-lacks, tag-key-positive, tag-key-lacks}
 use Rattle.refusals.proofs.Cases.{first-stop, first-pass, positive-append, lacks-append}
 use Rattle.circuit.specs.declared.Schedule.{Schedule}
 use Rattle.expansion.specs.Outcomes.{number}
@@ -27,6 +27,7 @@ use Rattle.header.proofs.Cases.{notOfHeader, header-positive, header-lacks}
 use Rattle.directory.specs.Check.{directoryCasesBy}
 use Rattle.directory.proofs.Cases.{notOfDirectory, directory-positive, directory-lacks}
 use Rattle.admission.specs.Check.{keyCheck, wrongTagCases, fileCasesBy, underKeyCases, underKeyCasesBy, checkCases, checkCasesBy}
+use Rattle.admission.specs.Check.{tagScheduleUnder}
 
 -- m is the number of no case of checking: computed where m is a numeral
 abbrev pub notOfCheck : ℕ → Bool
@@ -88,6 +89,22 @@ module _ (order : List ℕ → ℕ) (key tagKey file : List ℕ) where
       ∙ first-pass (tagKeyCases (length tagKey)) _ (tag-key-positive (length tagKey)) t
       ∙ ap firstOf (append-assoc header directory (wrongTagCases tagKey file))
       ∙ first-pass header _ (header-positive _ _ _ file) h
+
+-- ---- the tag key's schedule, as it is handed on
+
+pub tag-schedule-good : (key tagKey : List ℕ) → goodKey (length key) ≡ true → scheduleOf tagKey ≡ tagScheduleUnder key tagKey
+unfolding tagScheduleUnder
+tag-schedule-good key tagKey e = rw e
+
+-- beside a key that is refused
+pub tag-schedule-else : (key tagKey : List ℕ) (p : Prepared) → Prepares key p → OneOf (1 ∷ 2 ∷ []) (tagOf outcome.the-type (p .outcome))
+    → scheduleOf key ≡ tagScheduleUnder key tagKey
+unfolding tagScheduleUnder
+tag-schedule-else key tagKey p r t = by-test (goodKey (length key)) refl
+  where
+    by-test : (good : Bool) → goodKey (length key) ≡ good → scheduleOf key ≡ cond good (scheduleOf tagKey) (scheduleOf key)
+    by-test true e = absurd (number-else (p .outcome) t (r .number ∙ key-0 (length key) e))
+    by-test false e = refl
 
 -- ---- the two ways out of admission
 

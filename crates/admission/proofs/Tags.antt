@@ -58,6 +58,11 @@ module _ (file : List ℕ) (two : layoutOf file ≡ 2) (long : 16 ≤ length fil
 
 -- ---- what it is compared with
 
+-- a key of no bytes
+pub no-bytes : (key : List ℕ) → length key ≡ 0 → key ≡ []
+no-bytes [] e = refl
+no-bytes (x ∷ xs) e = absurd (omega arith)
+
 -- with no tag key there is none
 pub tag-absent : (tagKey bytes : List ℕ) → length tagKey ≡ 0 → tagBytes tagKey bytes ≡ []
 unfolding tagBytes

@@ -11,7 +11,7 @@ use lib.Dec.{eqb}
 use lib.ListN.{length, take, replicate}
 use Rattle.refusals.specs.Cases.{Case, when, firstOf}
 use Rattle.refusals.specs.Answers.{unlessRefused}
-use Rattle.refusals.specs.Shared.{keyCases, tagKeyCases, roundsCases}
+use Rattle.refusals.specs.Shared.{goodKey, keyCases, tagKeyCases, roundsCases}
 use Rattle.octets.specs.Equality.{sameBytes}
 use Rattle.circuit.specs.Run.{encrypted}
 use Rattle.circuit.specs.declared.Schedule.{Schedule}
@@ -68,8 +68,14 @@ underKeyCases s keysize tagKey file = underKeyCasesBy orderOf s keysize tagKey f
 abbrev pub checkCases : List ℕ → List ℕ → List ℕ → List Case
 checkCases key tagKey file = checkCasesBy orderOf key tagKey file
 
--- the contract of admission, with which every call that reads an archive begins: the number of the first case, 0 for none, and the key's
--- schedule; of a refused key, no rounds and zero keys, which `scheduleOf` then is
+-- the tag key's schedule, as admission hands it on: of a tag key that is refused, and where there is none, no rounds and zero keys, which
+-- `scheduleOf` then is. Where the key is refused no tag key is prepared, and it is that of the refused key: no rounds and zero keys too
+unfoldable pub tagScheduleUnder : List ℕ → List ℕ → Schedule
+tagScheduleUnder key tagKey = cond (goodKey (length key)) (scheduleOf tagKey) (scheduleOf key)
+
+-- the contract of admission, with which every call that reads an archive begins: the number of the first case, 0 for none; the key's
+-- schedule, which is no rounds and zero keys for a refused key; and the tag key's
 pub record Admits (key tagKey file : List ℕ) (r : Admitted) : Type 0 where
   pub number : r .number ≡ firstOf (checkCases key tagKey file)
   pub schedule : r .schedule ≡ scheduleOf key
+  pub tagged : r .«tag_schedule» ≡ tagScheduleUnder key tagKey

@@ -5,18 +5,21 @@ use expansion::Outcome;
 use octets::part;
 ghost use mathlib.Core.Path.{_≡_};
 ghost use mathlib.Core.Bool.{true};
+ghost use mathlib.Core.List.{[]};
 ghost use Prim.Native.Nat.{_≤_};
 ghost use lib.ListN.{length};
 ghost use Rattle.refusals.specs.Cases.{firstOf};
 ghost use Rattle.refusals.specs.Shared.{goodRounds};
+ghost use Rattle.expansion.specs.KeySchedule.{scheduleOf};
 ghost use Rattle.header.specs.Fields.{layoutOf};
-ghost use Rattle.admission.specs.Check.{keyCheck, keyCheckUnder, fileCases, underKeyCases, Admits};
-ghost use Rattle.admission.specs.Internal.{tagCasesUnder};
+ghost use Rattle.admission.specs.Check.{keyCheck, keyCheckUnder, fileCases, Admits};
+ghost use Rattle.admission.specs.Internal.{tagCasesUnder, AdmitsUnder};
 
-// What the whole check comes to: a refusal's number or 0, and the schedule of the key.
+// What the whole check comes to: a refusal's number or 0, the schedule of the key and that of the tag key.
 pub struct Admitted {
     pub number: u32,
     pub schedule: Schedule,
+    pub tag_schedule: Schedule,
 }
 
 // The key check of a schedule.
@@ -67,24 +70,51 @@ fn tag_refusal(schedule: Schedule, file: &[u8]) -> u32
     cmac::number_of(verdict)
 }
 
-// The refusal of the tag key or of the file, or 0. A tag key of 0 bytes means none: it is not prepared, and the file has to be of layout 1.
-fn refusal(schedule: Schedule, keysize: usize, tag_key: &[u8], file: &[u8]) -> u32
+// The schedule beside no tag key, as beside a refused one: no rounds and zero keys.
+fn no_schedule() -> Schedule
+    ensures { λ r. ⌜ r ≡ scheduleOf [] ⌝ }
+{
+    Schedule {
+        rounds: 0,
+        keys: [0u8; 272],
+    }
+}
+
+// The check of the tag key and of the file. A tag key of 0 bytes means none: it is not prepared, and the file has to be of layout 1.
+fn admit_under(schedule: Schedule, keysize: usize, tag_key: &[u8], file: &[u8]) -> Admitted
     requires { ⌜ goodRounds (schedule .rounds) ≡ true ⌝ }
-    ensures { λ r. ⌜ r ≡ firstOf (underKeyCases schedule keysize (now («tag_key» .entry)) (now (file .entry))) ⌝ }
+    ensures { λ r. ⌜ AdmitsUnder schedule keysize (now («tag_key» .entry)) (now (file .entry)) r ⌝ }
 {
     if tag_key.len() == 0 {
-        return file_refusal(1, schedule, keysize, file);
+        return Admitted {
+            number: file_refusal(1, schedule, keysize, file),
+            schedule,
+            tag_schedule: no_schedule(),
+        };
     }
     let prepared = preparation::prepare(tag_key);
     let tag_outcome = prepared.outcome;
+    let tag_schedule = prepared.schedule;
     let Outcome::Ready = tag_outcome else {
-        return expansion::number_of(tag_outcome);
+        return Admitted {
+            number: expansion::number_of(tag_outcome),
+            schedule,
+            tag_schedule,
+        };
     };
     let n = file_refusal(2, schedule, keysize, file);
     if n != 0 {
-        return n;
+        return Admitted {
+            number: n,
+            schedule,
+            tag_schedule,
+        };
     }
-    tag_refusal(prepared.schedule, file)
+    Admitted {
+        number: tag_refusal(tag_schedule, file),
+        schedule,
+        tag_schedule,
+    }
 }
 
 // The whole check: the key, then the tag key and the file.
@@ -98,10 +128,8 @@ pub fn admit(key: &[u8], tag_key: &[u8], file: &[u8]) -> Admitted
         return Admitted {
             number: expansion::number_of(outcome),
             schedule,
+            tag_schedule: schedule,
         };
     };
-    Admitted {
-        number: refusal(schedule, key.len(), tag_key, file),
-        schedule,
-    }
+    admit_under(schedule, key.len(), tag_key, file)
 }

@@ -1,3 +1,4 @@
 pub mod Bench
 pub mod Opening
 pub mod Sealing
+pub mod Dropping

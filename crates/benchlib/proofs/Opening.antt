@@ -1,17 +1,13 @@
 -- An answer told by its refusal.
 -- Assumes nothing.
-use mathlib.Core.Path.{_≡_, refl, ap, _∙_}
+use mathlib.Core.Path.{_≡_, ap, _∙_}
 use mathlib.Core.List.{List}
-use Prim.Native.Nat.{ℕ, zero, suc}
-use Rattle.refusals.specs.Answers.{Answer, answer, writtenFor}
+use Prim.Native.Nat.{ℕ}
+use Rattle.refusals.specs.Answers.{Answer, refusalIn, writtenFor}
+use Rattle.refusals.proofs.Answers.{refusal-answer}
 use Rattle.expansion.specs.KeySchedule.{scheduleOf}
 use Rattle.opening.specs.Open.{plainRange, Opens}
-use Rattle.benchlib.specs.Opening.{refusalIn, BenchOpens}
-
--- of an answer to cases, the first that applies
-pub refusal-answer : (n v : ℕ) → refusalIn (answer n v) ≡ n
-refusal-answer zero v = refl
-refusal-answer (suc n) v = refl
+use Rattle.benchlib.specs.Opening.{BenchOpens}
 
 pub bench-opens : (key tagKey file number : List ℕ) (first count : ℕ) (before after : List ℕ) (a : Answer) (r : ℕ) → r ≡ refusalIn a
     → Opens key tagKey file number first count before a after → BenchOpens key tagKey file number first count before r after

@@ -3,11 +3,10 @@
 use mathlib.Core.Path.{_≡_, ap, _∙_}
 use mathlib.Core.List.{List}
 use Prim.Native.Nat.{ℕ}
-use Rattle.refusals.specs.Answers.{Answer, writtenFor}
+use Rattle.refusals.specs.Answers.{Answer, refusalIn, writtenFor}
+use Rattle.refusals.proofs.Answers.{refusal-answer}
 use Rattle.sealing.specs.Seal.{sealedFile, Seals}
-use Rattle.benchlib.specs.Opening.{refusalIn}
 use Rattle.benchlib.specs.Sealing.{BenchSeals}
-use Rattle.benchlib.proofs.Opening.{refusal-answer}
 
 pub bench-seals : (keyFile tagKey sheet plain before after : List ℕ) (a : Answer) (r : ℕ) → r ≡ refusalIn a
     → Seals keyFile tagKey sheet plain before a after → BenchSeals keyFile tagKey sheet plain before r after

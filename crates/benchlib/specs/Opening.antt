@@ -5,14 +5,9 @@ use mathlib.Core.List.{List}
 use Prim.Native.Nat.{ℕ}
 use lib.ListN.{length}
 use Rattle.refusals.specs.Cases.{firstOf}
-use Rattle.refusals.specs.Answers.{Answer, refused, gives, writtenFor}
+use Rattle.refusals.specs.Answers.{writtenFor}
 use Rattle.expansion.specs.KeySchedule.{scheduleOf}
 use Rattle.opening.specs.Open.{plainRange, openCases, openOf}
-
--- the refusal that an answer is, 0 for none: what a call gives is not told
-abbrev pub refusalIn : Answer → ℕ
-refusalIn (refused n) = n
-refusalIn (gives n) = 0
 
 -- the contract of opening a range: r is 0 or the refusal; `after` is what stands in the buffer that held `before`
 pub record BenchOpens (key tagKey file number : List ℕ) (first count : ℕ) (before : List ℕ) (r : ℕ) (after : List ℕ) : Type 0 where

@@ -1,16 +1,19 @@
 // Calls that `libaria.a` does not export, for the bench of host/ and the tests alone: counter mode under a key, checking an archive,
-// opening a job of it and sealing one, with one number for the answer.
+// opening a job of it, dropping jobs from it and sealing one, with one number for the answer.
 use archive::Checked;
+use dropping::Dropped;
 use expansion::Outcome;
 use opening::Opened;
 use sealing::Sealed;
 ghost use mathlib.Core.Path.{_≡_};
 ghost use Rattle.refusals.specs.Cases.{firstOf};
+ghost use Rattle.refusals.specs.Answers.{refusalIn};
 ghost use Rattle.admission.specs.Check.{checkCases};
 ghost use Rattle.opening.specs.Open.{jobSize, openedAs};
 ghost use Rattle.benchlib.specs.Bench.{twelve, AppliedUnderKey};
-ghost use Rattle.benchlib.specs.Opening.{refusalIn, BenchOpens};
+ghost use Rattle.benchlib.specs.Opening.{BenchOpens};
 ghost use Rattle.benchlib.specs.Sealing.{BenchSeals};
+ghost use Rattle.benchlib.specs.Dropping.{BenchDrops};
 
 // The first twelve bytes, zero where there are fewer.
 fn first_twelve(bytes: &[u8]) -> [u8; 12]
@@ -106,5 +109,24 @@ pub extern "C" fn bench_seal(
     match sealed {
         Sealed::Bytes(_) => 0,
         Sealed::Refused(n) => n,
+    }
+}
+
+// An archive without the jobs of a list, into the front of a buffer: 0, or the refusal.
+#[no_mangle]
+pub extern "C" fn bench_drop(
+    key: &[u8],
+    tag_key: &[u8],
+    file: &[u8],
+    list: &[u8],
+    out: &mut [u8],
+) -> u32
+    ensures { λ r. ⌜ BenchDrops (now (key .entry)) (now («tag_key» .entry)) (now (file .entry)) (now (list .entry)) (now (out .entry)) r
+        (now (out .exit)) ⌝ }
+{
+    let dropped = dropping::drop(key, tag_key, file, list, out);
+    match dropped {
+        Dropped::Bytes(_) => 0,
+        Dropped::Refused(n) => n,
     }
 }

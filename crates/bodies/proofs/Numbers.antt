@@ -38,12 +38,16 @@ module _ (file number : List ℕ) where
       go true e = absurd (omega arith)
       go false e = e
 
+  -- nor is 18
+  pub number-good : firstOf (numberCases file number) ≡ 0 → isJobNumber number ≡ true
+  unfolding numberCases
+  number-good e = not-false _ (clear (numberCases file number) number-positive e 0)
+
   -- a number that is found has eight bytes
   pub lookup-eight : (i : ℕ) → gives i ≡ lookupOf file number → length number ≡ 8
-  unfolding numberCases isJobNumber
+  unfolding isJobNumber
   lookup-eight i e =
-      let none = answer-gives _ _ i (sym e) .0 in
-      let good = not-false _ (clear (numberCases file number) number-positive none 0) in
+      let good = number-good (answer-gives _ _ i (sym e) .0) in
       eqb-true (length number) 8 (both-true (eqb (length number) 8) (digits number) good .0)
 
   -- of a job number the search is left

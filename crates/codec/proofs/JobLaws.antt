@@ -174,7 +174,7 @@ slot start (more {j = j} {js = js} e r) (suc i) l =
     ∙ ap (λ (k : ℕ). entryOf (jobIn js i .number) k (length (jobIn js i .body))) (sym (start-shift start j js i))
 
 -- a directory of two lists of jobs, one after the other
-directory-append : (start : ℕ) (a b : List Job)
+pub directory-append : (start : ℕ) (a b : List Job)
     → directoryFrom start (a ++ b) ≡ directoryFrom start a ++ directoryFrom (start + length (bodiesIn a)) b
 unfolding directoryFrom bodiesIn
 directory-append start [] b = let z : start ≡ start + 0 = omega arith in ap (λ (k : ℕ). directoryFrom k b) z

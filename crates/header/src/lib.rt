@@ -39,7 +39,7 @@ pub fn directory(file: &[u8]) -> &[u8]
 }
 
 // How many bytes the tag has, by the layout.
-fn tag_size(file: &[u8]) -> usize
+pub fn tag_size(file: &[u8]) -> usize
     ensures { λ r. ⌜ (r ≡ tagSize (layoutOf (now (file .entry)))) × (r ≤ 16) ⌝ }
 {
     if byte_at(file, 0) == 2 {

@@ -7,13 +7,13 @@ use native.Mathlib.Nat.{zero-add}
 use native.Mathlib.Omega.{arith}
 use lib.ListN.{length, drop, replicate, length-take, length-replicate}
 use lib.Seq.{length-take-le}
-use Rattle.octets.specs.Parts.{laid}
+use Rattle.octets.specs.Parts.{laid, Lays}
 use Rattle.octets.proofs.Parts.{drop-replicate}
 use Rattle.blocks.specs.Blocks.{row}
 use Rattle.directory.specs.Entries.{entries, entryAt, numberOf, startOf, sizeOf}
 use Rattle.listing.specs.Text.{numberLine, jobLine, jobLines}
 use Rattle.listing.specs.Listing.{Holds}
-use Rattle.listing.specs.Internal.{Lays, Printable}
+use Rattle.listing.specs.Internal.{Printable}
 use Rattle.listing.specs.declared.Listing.{Listing}
 use Rattle.decimal.proofs.Digits.{limit, length-decimal}
 use Rattle.listing.proofs.Lines.{length-field, length-number-line, length-job-line, lines-more}

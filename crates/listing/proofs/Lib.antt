@@ -1,4 +1,3 @@
-pub mod Pieces
 pub mod Lines
 pub mod Fits
 pub mod Accepted

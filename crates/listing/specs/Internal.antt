@@ -1,14 +1,8 @@
 -- Internal: what the inner functions promise each other. No public contract cites it.
 -- Assumes nothing.
 use mathlib.Core.List.{List}
-use Prim.Native.Nat.{ℕ, _+_, _≤_, _<_}
-use lib.ListN.{length}
-use Rattle.octets.specs.Parts.{Put}
+use Prim.Native.Nat.{ℕ, _≤_, _<_}
 use Rattle.directory.specs.Entries.{entries, entryAt, startOf, sizeOf}
-
--- the text s is put at `at` into a buffer that held `before`, if it fits: the buffer holds `after`, and r is the place behind s
-pub record Lays (before : List ℕ) (at : ℕ) (s : List ℕ) (r : ℕ) (after : List ℕ) : Type 0 where
-  pub put : at + length s ≤ length before → Put before at s r after
 
 -- a directory whose listing fits into the buffer, as that of an accepted archive: 64 entries at most, with starts and lengths of five
 -- digits at most

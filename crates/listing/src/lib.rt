@@ -6,11 +6,12 @@ use octets::u32_at;
 ghost use mathlib.Core.List.{[], _∷_};
 ghost use Prim.Native.Nat.{_+_, _%_};
 ghost use Rattle.refusals.specs.Answers.{gives};
+ghost use Rattle.octets.specs.Parts.{Lays};
 ghost use Rattle.directory.specs.Entries.{entries};
 ghost use Rattle.decimal.specs.Decimal.{decimalDigits};
 ghost use Rattle.listing.specs.Text.{refusedWord, field, numberLine, jobLine, jobLines, textOf};
 ghost use Rattle.listing.specs.Listing.{listingText, Holds};
-ghost use Rattle.listing.specs.Internal.{Lays, Printable};
+ghost use Rattle.listing.specs.Internal.{Printable};
 
 // A text at the front of a buffer, with zeros behind it: room for a first line of 8 bytes and 64 lines of 21, and no listing is longer.
 pub struct Listing {

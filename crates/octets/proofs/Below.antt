@@ -1,7 +1,7 @@
 -- Laws of a test at the numbers below a bound: at all of them, and at the first where it holds.
 -- Assumes nothing.
 use mathlib.Core.Path.{_≡_, refl, sym, ap, _∙_}
-use mathlib.Core.Bool.{Bool, true, false, cond}
+use mathlib.Core.Bool.{Bool, true, false, cond, _&&_}
 use Prim.Native.Nat.{ℕ, zero, suc, _<_, _≤_}
 use native.Mathlib.Nat.{not-suc-le-zero}
 use native.Mathlib.Omega.{arith}
@@ -31,6 +31,21 @@ all-each p n h i l = go (p i) refl
     go : (b : Bool) → p i ≡ b → p i ≡ true
     go true e = e
     go false e = absurd (true-false (sym h ∙ all-no p n i l e))
+
+-- one number more
+pub all-next : (p : ℕ → Bool) (n : ℕ) → allBelow p (suc n) ≡ (allBelow p n && p n)
+unfolding allBelow
+all-next p zero = alone (p zero)
+  where
+    alone : (b : Bool) → cond b true false ≡ b
+    alone true = refl
+    alone false = refl
+all-next p (suc n) = after (p zero) (all-next (λ (i : ℕ). p (suc i)) n)
+  where
+    after : (b : Bool) → allBelow (λ (i : ℕ). p (suc i)) (suc n) ≡ (allBelow (λ (i : ℕ). p (suc i)) n && p (suc n))
+        → cond b (allBelow (λ (i : ℕ). p (suc i)) (suc n)) false ≡ (cond b (allBelow (λ (i : ℕ). p (suc i)) n) false && p (suc n))
+    after true e = e
+    after false e = refl
 
 -- tests that come out alike
 pub all-same : (p q : ℕ → Bool) (n : ℕ) → ((k : ℕ) → k < n → p k ≡ q k) → allBelow p n ≡ allBelow q n

@@ -1,6 +1,6 @@
 -- Laws of laying text over a buffer: a piece and then the next is the two at once, and the buffer keeps its length.
 -- Assumes nothing.
-use mathlib.Core.Path.{_≡_, refl, sym, ap, ap₂, _∙_}
+use mathlib.Core.Path.{_≡_, refl, sym, ap, ap₂, _∙_, subst}
 use mathlib.Core.Bool.{Bool, cond}
 use mathlib.Core.List.{List, [], _++_, append-assoc}
 use Prim.Native.Nat.{ℕ, _+_, _-_, _≤_, _<_}
@@ -9,7 +9,7 @@ use native.Mathlib.Omega.{arith}
 use lib.ListN.{length, take, drop, length-append, length-drop}
 use lib.Seq.{take-at, drop-at, drop-drop, take-length, length-take-le, paste, paste-zero, length-paste}
 use borrow.Author.Tests.{le-leb, lt-leb}
-use Rattle.octets.specs.Parts.{overwritten, laid, Puts, Put}
+use Rattle.octets.specs.Parts.{overwritten, laid, Puts, Put, Lays}
 use Rattle.octets.proofs.Parts.{overwritten-whole}
 
 pub laid-paste : (xs : List ℕ) (at : ℕ) (s : List ℕ) → laid xs at s ≡ paste xs at s (length s)
@@ -82,3 +82,25 @@ puts-put {xs} {at} {s} {r} {ys} h p =
     let some = le-leb (at + length s) (length xs) h in
     let text : ys ≡ laid xs at s = rw some at (p .bytes) in
     record { end = rw some at (p .end); text = text; same = ap length text ∙ length-laid xs at s h }
+
+-- ---- pieces put behind each other: where all of them fit, so does each
+
+pub lays-none : (xs : List ℕ) (at : ℕ) → Lays xs at [] at xs
+lays-none xs at = record { put = λ h. put-none xs at }
+
+module _ {xs ys : List ℕ} {at m : ℕ} {s : List ℕ} where
+  pub puts-lays : Puts xs at s m ys → Lays xs at s m ys
+  puts-lays p = record { put = λ h. puts-put h p }
+
+  -- the same piece, said in another way
+  pub lays-as : {t : List ℕ} → s ≡ t → Lays xs at s m ys → Lays xs at t m ys
+  lays-as e a = subst (λ (l : List ℕ). Lays xs at l m ys) e a
+
+  -- a piece, and then the next behind it
+  pub lays-then : {zs t : List ℕ} {r : ℕ} → Lays xs at s m ys → Lays ys m t r zs → Lays xs at (s ++ t) r zs
+  lays-then {zs} {t} {r} a b = record {
+    put = λ h.
+        let both = length-append s t in
+        let first = a .put (omega arith) in
+        put-then (omega arith) first (b .put (omega (arith, first .end, first .same)));
+  }

@@ -41,3 +41,8 @@ pub record Put (before : List ℕ) (at : ℕ) (s : List ℕ) (r : ℕ) (after : 
   pub end : r ≡ at + length s
   pub text : after ≡ laid before at s
   pub same : length after ≡ length before
+
+-- s is put at `at` into a buffer that held `before`, if it fits: the buffer holds `after`, and r is the place behind s. Of pieces put one
+-- behind the other, each fits where all do
+pub record Lays (before : List ℕ) (at : ℕ) (s : List ℕ) (r : ℕ) (after : List ℕ) : Type 0 where
+  pub put : at + length s ≤ length before → Put before at s r after

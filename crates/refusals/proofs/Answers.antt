@@ -5,7 +5,7 @@ use mathlib.Core.List.{List, [], _++_}
 use Prim.Native.Nat.{ℕ, zero, suc}
 use native.Mathlib.Omega.{arith}
 use Rattle.refusals.specs.Cases.{Case, firstOf}
-use Rattle.refusals.specs.Answers.{Answer, refused, gives, answer, partFor}
+use Rattle.refusals.specs.Answers.{Answer, refused, gives, answer, refusalIn, partFor}
 use Rattle.refusals.proofs.Cases.{first-stop}
 
 pub answer-refused : (n v : ℕ) → (n ≡ 0 → ⊥) → answer n v ≡ refused n
@@ -40,3 +40,17 @@ part-refused a n part e = ap (λ (b : Answer). partFor b part) e
 pub part-gives : (a : Answer) (n : ℕ) (part : ℕ → List ℕ) → gives n ≡ a → part n ≡ partFor a part
 unfolding partFor
 part-gives a n part e = ap (λ (b : Answer). partFor b part) e
+
+-- the refusal in an answer to cases
+pub refusal-answer : (n v : ℕ) → refusalIn (answer n v) ≡ n
+refusal-answer zero v = refl
+refusal-answer (suc n) v = refl
+
+-- parts of two answers with the same refusals
+pub part-alike : (m n i j : ℕ) (f g : ℕ → List ℕ) → m ≡ n → f i ≡ g j → partFor (answer m i) f ≡ partFor (answer n j) g
+unfolding partFor
+part-alike m n i j f g e same = ap (λ (k : ℕ). partFor (answer k i) f) e ∙ go n
+  where
+    go : (n : ℕ) → partFor (answer n i) f ≡ partFor (answer n j) g
+    go zero = same
+    go (suc n) = refl

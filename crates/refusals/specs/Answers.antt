@@ -15,6 +15,11 @@ abbrev pub answer : ℕ → ℕ → Answer
 answer zero v = gives v
 answer (suc n) v = refused (suc n)
 
+-- the refusal that an answer is, 0 for none
+abbrev pub refusalIn : Answer → ℕ
+refusalIn (refused n) = n
+refusalIn (gives n) = 0
+
 -- the part for what an answer gives; a part of no bytes where it is a refusal
 unfoldable pub partFor : Answer → (ℕ → List ℕ) → List ℕ
 partFor (gives n) part = part n

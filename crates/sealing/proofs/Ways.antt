@@ -8,18 +8,15 @@ use native.Mathlib.Omega.{arith}
 use denote.Enum.Declared.{tagOf as variantOf}
 use types.Run.{OneOf}
 use borrow.Author.Tests.{lt-ltb}
-use lib.ListN.{length, take, drop, length-append, length-drop}
-use lib.Seq.{take-at, drop-at, drop-drop, length-take-le}
+use lib.ListN.{length, take, drop, length-append}
+use lib.Seq.{length-take-le}
 use Rattle.refusals.specs.Cases.{firstOf}
-use Rattle.refusals.specs.Answers.{Answer, refused, gives, answer, unlessRefused, writtenFor}
-use Rattle.refusals.specs.Shared.{goodRounds, goodKey, tagKeyCases, roundsCases}
+use Rattle.refusals.specs.Answers.{Answer, refused, gives, answer, writtenFor}
+use Rattle.refusals.specs.Shared.{goodKey, tagKeyCases}
 use Rattle.refusals.proofs.Answers.{answer-none, answer-first, refusal-is}
 use Rattle.refusals.proofs.Cases.{first-pass, first-stop, one-applies}
-use Rattle.refusals.proofs.Shared.{key-0, tag-key-positive, tag-key-none, tag-key-some, rounds-0}
-use Rattle.octets.specs.Parts.{laid, Puts, Put}
-use Rattle.octets.proofs.Laying.{puts-put}
+use Rattle.refusals.proofs.Shared.{key-0, tag-key-positive, tag-key-none, tag-key-some}
 use Rattle.blocks.proofs.Rows.{length-row}
-use Rattle.blocks.specs.Chains.{zeroBlock}
 use Rattle.circuit.specs.declared.Schedule.{Schedule}
 use Rattle.expansion.specs.Outcomes.{number}
 use Rattle.expansion.specs.KeySchedule.{scheduleOf, Prepares}
@@ -27,9 +24,7 @@ use Rattle.expansion.specs.declared.Outcome.the-variants.{Ready}
 use Rattle.expansion.specs.declared.Prepared.{Prepared}
 use Rattle.expansion.proofs.Outcome as outcome
 use Rattle.expansion.proofs.Taken.{number-else}
-use Rattle.cmac.specs.Tag.{tagUnder, Tags}
-use Rattle.cmac.specs.declared.Tagged.{Tagged}
-use Rattle.cmac.proofs.Laws.{tag-size}
+use Rattle.cmac.specs.Tag.{tagUnder}
 use Rattle.header.specs.Fields.{layoutUnder, tagSize}
 use Rattle.header.proofs.Layouts.{layout-1, layout-2}
 use Rattle.admission.specs.Check.{keyCheck, tagBytes}
@@ -133,36 +128,6 @@ module _ (layout : ℕ) (tag : List ℕ → List ℕ) (s : Schedule) (sheet plai
   rest-done five none r after er e =
       let whole : r ≡ lengthOn layout sheet = omega (arith, good layout sheet plain before five none .fits .exact) in
       record { answered = ap gives whole ∙ sym (answer-none _ _ none); bytes = e }
-
--- the tag of what was written, put behind it
-pub tagged-done : (t : Schedule) (front before out after : List ℕ) (end k r : ℕ) (made : Tagged) → goodRounds (t .rounds) ≡ true
-    → end ≡ length front → k ≡ end → out ≡ front ++ drop end before → end + 16 ≤ length before
-    → Tags (roundsCases (t .rounds)) t (take k out) made → Puts out end (made .tag) r after
-    → (r ≡ end + 16) × (after ≡ (front ++ tagUnder t front) ++ drop r before)
-unfolding laid
-tagged-done t front before out after end k r made good el ek eo room m p =
-    let run : take k out ≡ front = ap (take k) eo ∙ take-at front (drop end before) k (sym (ek ∙ el)) in
-    let is : made .tag ≡ tagUnder t front =
-    m .tag
-    ∙ ap (λ (n : ℕ). unlessRefused n (tagUnder t (take k out)) zeroBlock) (rounds-0 (t .rounds) good)
-    ∙ ap (tagUnder t) run
-    in
-    let size : length (made .tag) ≡ 16 = ap length is ∙ tag-size t front in
-    let long : length out ≡ length before =
-    ap length eo ∙ length-append front (drop end before) ∙ simp length-drop (omega arith) in
-    let put : Put out end (made .tag) r after = puts-put (omega arith) p in
-    let cut : take end out ≡ front = ap (take end) eo ∙ take-at front (drop end before) end (sym el) in
-    let past : drop (end + length (made .tag)) out ≡ drop r before =
-    sym (drop-drop (length (made .tag)) end out)
-    ∙ ap (drop (length (made .tag))) (ap (drop end) eo ∙ drop-at front (drop end before) end (sym el))
-    ∙ drop-drop (length (made .tag)) end before
-    ∙ ap (λ (n : ℕ). drop n before) (sym (put .end))
-    in (
-      omega (arith, put .end),
-      put .text
-          ∙ ap₂ (λ (x y : List ℕ). x ++ made .tag ++ y) cut past
-          ∙ ap (λ (x : List ℕ). (front ++ x) ++ drop r before) is,
-    )
 
 -- ---- the tag key
 

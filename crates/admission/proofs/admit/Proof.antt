@@ -1,8 +1,9 @@
 -- `admission::admit` meets its contract: the outcome of the preparation is taken out first, then tag key and file are asked.
 -- Assumes nothing.
+use mathlib.Core.Path.{sym, _∙_}
 use borrow.Author.Needs.{needs}
-use Rattle.expansion.proofs.Taken.{rounds-ready}
-use Rattle.admission.proofs.Checking.{check-else, check-ready}
+use Rattle.expansion.proofs.Taken.{rounds-ready, key-ready}
+use Rattle.admission.proofs.Checking.{check-else, check-ready, tag-schedule-else, tag-schedule-good}
 use Rattle.admission.proofs.admit.Statement.{statement}
 use Rattle.admission.proofs.admit.Tie as tie
 
@@ -18,15 +19,26 @@ number-of-requires c κs = search needs
 returns : tie.Need-returns
 returns c =
     let p = c .before .before .before .prepare .ensures in
-    record { number = check-else _ _ _ _ p _ (c .before .match .keys2) (c .number-of .ensures); schedule = p .schedule }
+    let other = c .before .match .keys2 in
+    record {
+      number = check-else _ _ _ _ p _ other (c .number-of .ensures);
+      schedule = p .schedule;
+      tagged = p .schedule ∙ tag-schedule-else _ _ _ p other;
+    }
 
-refusal-requires : tie.Need-refusal-requires
-refusal-requires c κs = rounds-ready _ _ (c .before .before .before .prepare .ensures) (c .enum-told .given .1)
+admit-under-requires : tie.Need-admit-under-requires
+admit-under-requires c κs = rounds-ready _ _ (c .before .before .before .prepare .ensures) (c .enum-told .given .1)
 
 returns-2 : tie.Need-returns-2
 returns-2 c =
     let p = c .before .before .before .before .prepare .ensures in
-    record { number = check-ready _ _ _ _ p _ (c .before .enum-told .given .1) (c .refusal .ensures); schedule = p .schedule }
+    let ready = c .before .enum-told .given .1 in
+    let under = c .admit-under .ensures in
+    record {
+      number = check-ready _ _ _ _ p _ ready (under .number);
+      schedule = under .schedule ∙ p .schedule;
+      tagged = under .tagged ∙ tag-schedule-good _ _ (key-ready _ _ p ready);
+    }
 
 pub admit-spec : {M : Type 1} → statement M
 admit-spec =
@@ -36,5 +48,5 @@ admit-spec =
     enum-told
     number-of-requires
     returns
-    refusal-requires
+    admit-under-requires
     returns-2)

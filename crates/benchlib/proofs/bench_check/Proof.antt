@@ -3,8 +3,8 @@
 use mathlib.Core.Path.{sym, ap, _∙_}
 use borrow.Author.Needs.{needs}
 use Rattle.archive.specs.Check.{checkedAs}
-use Rattle.benchlib.specs.Opening.{refusalIn}
-use Rattle.benchlib.proofs.Opening.{refusal-answer}
+use Rattle.refusals.specs.Answers.{refusalIn}
+use Rattle.refusals.proofs.Answers.{refusal-answer}
 use Rattle.benchlib.proofs.bench_check.Statement.{statement}
 use Rattle.benchlib.proofs.bench_check.Tie as tie
 

@@ -2,7 +2,7 @@
 -- Assumes nothing.
 use mathlib.Core.Path.{sym, ap}
 use Rattle.sealing.specs.Seal.{sealedAs}
-use Rattle.benchlib.specs.Opening.{refusalIn}
+use Rattle.refusals.specs.Answers.{refusalIn}
 use Rattle.benchlib.proofs.Sealing.{bench-seals}
 use borrow.Author.Needs.{needs}
 use Rattle.benchlib.proofs.bench_seal.Statement.{statement}

@@ -5,7 +5,7 @@ use Prim.Native.Nat.{ℕ, _<_}
 use native.Mathlib.Omega.{arith}
 use borrow.Author.Needs.{needs}
 use Rattle.decimal.proofs.Digits.{decimal-small, decimal-more}
-use Rattle.listing.proofs.Pieces.{lays-as, lays-then}
+use Rattle.octets.proofs.Laying.{lays-as, lays-then}
 use borrow.Fn.Kinds.{In}
 use borrow.Fn.PlainCycle.{Measures, is, falls, and}
 use Rattle.listing.proofs.put_decimal.Reads as put-decimal

@@ -7,7 +7,7 @@ use lib.ListN.{length, length-append}
 use borrow.Author.Needs.{needs}
 use Rattle.directory.specs.Entries.{entries}
 use Rattle.listing.specs.Text.{jobsWord, numberLine, jobLines, textOf}
-use Rattle.listing.proofs.Pieces.{lays-then}
+use Rattle.octets.proofs.Laying.{lays-then}
 use Rattle.listing.proofs.Fits.{number-line-short, lines-short, lays-held}
 use Rattle.listing.proofs.jobs.Statement.{statement}
 use Rattle.listing.proofs.jobs.Tie as tie

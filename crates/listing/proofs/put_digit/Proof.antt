@@ -1,7 +1,7 @@
 -- `listing::put_digit` meets its contract: one byte is put.
 -- Assumes nothing.
 use borrow.Author.Needs.{needs}
-use Rattle.listing.proofs.Pieces.{puts-lays}
+use Rattle.octets.proofs.Laying.{puts-lays}
 use Rattle.listing.proofs.put_digit.Statement.{statement}
 use Rattle.listing.proofs.put_digit.Tie as tie
 

@@ -10,8 +10,8 @@ use borrow.Author.Needs.{needs}
 use Rattle.blocks.specs.Blocks.{row}
 use Rattle.directory.specs.Entries.{entries}
 use Rattle.listing.specs.Text.{jobLine, jobLines}
-use Rattle.listing.specs.Internal.{Lays}
-use Rattle.listing.proofs.Pieces.{lays-none, lays-as, lays-then}
+use Rattle.octets.specs.Parts.{Lays}
+use Rattle.octets.proofs.Laying.{lays-none, lays-as, lays-then}
 use Rattle.listing.proofs.put_entries.Statement.{statement}
 use Rattle.listing.proofs.put_entries.Tie as tie
 

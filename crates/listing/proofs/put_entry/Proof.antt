@@ -3,7 +3,7 @@
 use mathlib.Core.Path.{ap}
 use borrow.Author.Needs.{needs}
 use Rattle.listing.specs.Text.{field, jobLine}
-use Rattle.listing.proofs.Pieces.{puts-lays, lays-as, lays-then}
+use Rattle.octets.proofs.Laying.{puts-lays, lays-as, lays-then}
 use Rattle.listing.proofs.put_entry.Statement.{statement}
 use Rattle.listing.proofs.put_entry.Tie as tie
 

@@ -2,7 +2,7 @@
 -- Assumes nothing.
 use borrow.Author.Needs.{needs}
 use Rattle.listing.specs.Text.{field}
-use Rattle.listing.proofs.Pieces.{puts-lays, lays-then}
+use Rattle.octets.proofs.Laying.{puts-lays, lays-then}
 use Rattle.listing.proofs.put_field.Statement.{statement}
 use Rattle.listing.proofs.put_field.Tie as tie
 

@@ -2,7 +2,7 @@
 -- Assumes nothing.
 use borrow.Author.Needs.{needs}
 use Rattle.listing.specs.Text.{numberLine}
-use Rattle.listing.proofs.Pieces.{puts-lays, lays-then}
+use Rattle.octets.proofs.Laying.{puts-lays, lays-then}
 use Rattle.listing.proofs.put_line.Statement.{statement}
 use Rattle.listing.proofs.put_line.Tie as tie
 

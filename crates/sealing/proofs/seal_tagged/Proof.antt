@@ -7,8 +7,9 @@ use native.Mathlib.Omega.{arith}
 use lib.ListN.{length, drop, length-append}
 use Rattle.header.proofs.Layouts.{tag-16}
 use Rattle.cmac.specs.Tag.{tagUnder}
+use Rattle.codec.proofs.Tagging.{tagged-done}
 use Rattle.sealing.specs.Internal.{frontOn}
-use Rattle.sealing.proofs.Ways.{front-size, rest-refused, rest-measured, rest-room, rest-done, tagged-done}
+use Rattle.sealing.proofs.Ways.{front-size, rest-refused, rest-measured, rest-room, rest-done}
 use borrow.Author.Needs.{needs}
 use Rattle.sealing.proofs.seal_tagged.Statement.{statement}
 use Rattle.sealing.proofs.seal_tagged.Tie as tie

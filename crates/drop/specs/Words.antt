@@ -1,0 +1,17 @@
+-- What the words of `drop` become in the list of job numbers: eight bytes each. The theorem is `no-number` of proofs/Words.
+-- Assumes nothing.
+use mathlib.Core.Path.{_≡_}
+use mathlib.Core.Bool.{false, cond}
+use mathlib.Core.List.{List}
+use Prim.Native.Nat.{ℕ}
+use lib.Dec.{eqb}
+use lib.ListN.{length, replicate}
+use Rattle.jobnumber.specs.Number.{isJobNumber}
+
+-- a word of eight bytes is taken as it is; any other becomes eight zero bytes
+unfoldable pub slotOf : List ℕ → List ℕ
+slotOf word = cond (eqb (length word) 8) word (replicate 8 0)
+
+-- a word that is no job number becomes none, so that 18 comes in its place
+abbrev pub NoNumber : Type 0
+NoNumber = (word : List ℕ) → isJobNumber word ≡ false → isJobNumber (slotOf word) ≡ false

@@ -1,0 +1,6 @@
+pub mod Cases
+pub mod Without
+pub mod Bearer
+pub mod Leaves
+pub mod Left
+pub mod Ways

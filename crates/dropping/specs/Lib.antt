@@ -1,0 +1,3 @@
+pub mod Drop
+pub mod Leaves
+pub mod Internal
