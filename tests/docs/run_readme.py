@@ -103,6 +103,28 @@ def sealing_recipe(command, scratch):
         expect("what it leaves then", (os.path.exists(os.path.join(folder, "new.bin")), read(os.path.join(folder, "archive.bin"), "rb")), (False, kept))
 
 
+def dropping_recipe(command, scratch):
+    """Puts what is left in the old archive's place, and leaves the old one where there is no such archive: what is refused, what could not
+    be read or written, what was broken off, words that are not taken."""
+    folder, call = os.path.join(TOP, "target", "trial"), "../bin/drop 24000017 < archive.bin "
+    kept = read(os.path.join(TOP, "examples", "tagged", "archive.bin"), "rb")
+    full = "LD_PRELOAD=%s FAULT='write 1 30 %d 1' %s" % (shlex.quote(made_faults(scratch)), errno.ENOSPC, call)
+    if command.count(call) != 1:
+        sys.exit("README.md: the recipe of `drop` is not as this check knows it: %s" % call)
+    for new, said in (
+        ("../bin/drop 24000017 24000019 < archive.bin ", "not dropped: refused 19\n"),
+        ("../bin/drop 24000017 < . ", "not dropped: drop: could not read\n"),
+        ("../bin/drop < archive.bin ", "not dropped: usage: drop NUMBER.. < ARCHIVE > SMALLER\n"),
+        (full, "not dropped: drop: could not write\n"),
+        ("sh -c 'printf \\002; kill -9 $$' ", "not dropped: ended badly: \n"),
+    ):
+        done = run(command.replace(call, new), TOP, status=1)
+        line = [line for line in done.stderr.splitlines(True) if line.startswith("not dropped: ")]
+        expect("the recipe of `drop`, with %s" % new, line, [said])
+        left = os.path.exists(os.path.join(folder, "smaller.bin")), read(os.path.join(folder, "archive.bin"), "rb")
+        expect("what it leaves then", left, (False, kept))
+
+
 def listing_recipe(command, scratch):
     """Goes on with a listing, and ends a script where there is none."""
     folder = beside_programs(scratch)
@@ -151,7 +173,7 @@ def rust_program(source, dependency, printed, scratch):
 def refusals(text):
     """The tables of refusals have every number that a call here answers, in the order in which they apply."""
     rows = re.findall(r"^\| (\d+)(?: \*)? \| .+ \| .+ \|$", text, re.M)
-    expect("the numbers of refusals, in order", [int(row) for row in rows], [1, 2, 3, 4, 23, 5, 6, 7, 24, *range(8, 18), 25, 18, 19, 26, 20])
+    expect("the numbers of refusals, in order", [int(row) for row in rows], [1, 2, 3, 4, 23, 5, 6, 7, 24, *range(8, 18), 25, 27, 18, 19, 26, 20])
     rows = re.findall(r"^\| [^|]*\| (\d+)(?: \*)? \| .+ \| .+ \|$", text, re.M)
     expect("the numbers of refusals of `seal`, in order", [int(row) for row in rows], [21, 22, 1, 1, 9, 13, 14, 6, 16, 17, 20])
 
@@ -172,6 +194,8 @@ def main():
                 at_top(body, following)
                 if "> new.bin" in body:
                     sealing_recipe(body, scratch)
+                if "> smaller.bin" in body:
+                    dropping_recipe(body, scratch)
             elif kind == "sh" and body.startswith("xxd "):
                 hexadecimal(body, scratch)
             elif kind == "sh" and body.startswith("listing="):

@@ -51,11 +51,12 @@ def stored():
     files.update(_case("no-tag-key-and-layout-2", sample.key, tagged))
     files.update(_case("empty-tag-key", sample.key, sample.file(), b""))
     files.update(_case("bad-tag-key", sample.key, tagged, tag_key[:31]))
-    for crate in ("jobs", "open"):
+    for crate in ("jobs", "open", "drop"):
         files["crates/%s/stdin" % crate] = sample.file()
         files["crates/%s/data/key.bin" % crate] = sample.key
     files["crates/jobs/stdout"] = archive.jobs_text(sample.key, b"", sample.file())
     files["crates/open/stdout"] = archive.open_job(sample.key, b"", sample.file(), b"24000017")
+    files["crates/drop/stdout"] = archive.drop(sample.key, b"", sample.file(), b"24000018")
     files["crates/seal/stdin"] = files["examples/sample/plain.bin"]
     files["crates/seal/stdout"] = sample.file()
     for name in ("key.bin", "sheet.bin"):

@@ -10,12 +10,12 @@ use borrow.Author.Tests.{le-ltb}
 use lib.ListN.{length, take, drop, length-take}
 use lib.Seq.{take-at, drop-at}
 use Rattle.refusals.specs.Cases.{firstOf}
-use Rattle.refusals.specs.Answers.{Answer, refused, gives, answer, partFor, writtenFor}
+use Rattle.refusals.specs.Answers.{Answer, refused, gives, answer, refusalIn, partFor, writtenFor}
 use Rattle.refusals.proofs.Cases.{one-passes, first-stop, first-pass, first-none, first-alike, first-lacks}
-use Rattle.refusals.proofs.Answers.{answer-none, answer-gives, answer-number, answer-first, part-alike}
+use Rattle.refusals.proofs.Answers.{answer-none, answer-gives, answer-number, answer-first, refusal-answer, part-alike}
 use Rattle.refusals.proofs.Shared.{key-0}
 use Rattle.expansion.specs.KeySchedule.{scheduleOf}
-use Rattle.header.specs.Fields.{layoutUnder, tagSize, countOf, archiveNumber, directoryOf}
+use Rattle.header.specs.Fields.{layoutOf, layoutUnder, tagSize, countOf, archiveNumber, directoryOf}
 use Rattle.jobnumber.specs.Number.{isJobNumber, orderOf}
 use Rattle.directory.specs.Search.{indexOf}
 use Rattle.bodies.specs.Bodies.{bodyAt}
@@ -36,12 +36,13 @@ use Rattle.codec.proofs.Built.{built-says, built-reads}
 use Rattle.codec.proofs.Rebuilt.{accepted-fine, whole-length, rebuilt}
 use Rattle.joblist.specs.List.{listed, isListed, listCases}
 use Rattle.joblist.proofs.Cases.{list-none, list-clear}
-use Rattle.joblist.proofs.Listed.{is-listed, alike-clear}
+use Rattle.joblist.proofs.Listed.{is-listed, listed-no, alike-clear}
 use Rattle.dropping.specs.Drop.{jobsLeft, droppedFile, lengthLeft, askedCases, dropCases, Drops}
 use Rattle.dropping.specs.Leaves.{AsBefore, Gone, LeftArchive, DropLeaves, DropShortens, DropNone, DropOnce, DropAll}
 use Rattle.dropping.proofs.Cases.{asked-positive, asked-lacks, asked-none, drop-asked}
 use Rattle.dropping.proofs.Without.{without-none, without-alike, without-all, length-without, fine-without}
 use Rattle.dropping.proofs.Bearer.{bearerIn, bearer-without, refusalFor, bearer-found}
+use Rattle.dropping.proofs.Answers.{drop-answers}
 
 -- ---- what finding answers tells of opening
 
@@ -50,6 +51,12 @@ as-before : (key tagKey file new number : List ℕ) → firstOf (findCases key t
     → bodyOf new number ≡ bodyOf file number → archiveNumber new ≡ archiveNumber file → AsBefore key tagKey file new number
 unfolding openCases
 as-before key tagKey file new number found body named = record {
+  finds = λ a b f g.
+      ap refusalIn (f .answered)
+      ∙ refusal-answer (firstOf (findCases key tagKey new number)) (indexOf (directoryOf new) number)
+      ∙ found
+      ∙ sym (refusal-answer (firstOf (findCases key tagKey file number)) (indexOf (directoryOf file) number))
+      ∙ sym (ap refusalIn (g .answered));
   body = part-alike _ _ _ _ (bodyAt new) (bodyAt file) found body;
   size = ap length body;
   opens = λ first count before a after o. record {
@@ -153,7 +160,7 @@ module _ (key tagKey file list : List ℕ) (none : firstOf (askedCases key tagKe
         keyed = says .keyed ∙ sym (header .keyed);
         named = back .named;
         jobs = back .jobs;
-        stays = stays;
+        stays = λ number out. stays number (listed-no list number out);
         gone = λ k l. gone (listed list k) (is-listed list k l) (number-good file _ (list-clear file list (stages .1) .1 k l));
       }
 
@@ -220,12 +227,22 @@ drop-once key tagKey file list other before held n after a later alike whole l d
 
 pub drop-all : DropAll
 unfolding jobsOf wholeLength bodiesIn
-drop-all key tagKey file list before n after all d =
-    let g = given key tagKey file list before n after d in
-    let laid = accepted-header orderOf key tagKey file (stages key tagKey file list (g .0) .0) .laid in
-    let none : jobsLeft file list ≡ [] = without-all list (each-values (jobAt file) (countOf file) all) in (
-      sym (g .1) ∙ ap (wholeLength (layoutUnder tagKey)) none ∙ ap (λ (k : ℕ). 20 + tagSize k) (sym laid),
-      drop-leaves key tagKey file list before n after d .archive .accepted ∙ ap (λ (js : List Job). gives (length js)) none,
+drop-all key tagKey file list before count a after e whole borne all l d =
+    let check = answer-gives (firstOf (checkCases key tagKey file)) (countOf file) count e .0 in
+    let laid = accepted-header orderOf key tagKey file check .laid in
+    let n : ℕ = 20 + tagSize (layoutOf file) in
+    let none : jobsLeft file list ≡ [] = without-all list (each-values (jobAt file) (countOf file) all) in
+    let size : lengthLeft tagKey file list ≡ n =
+    ap (wholeLength (layoutUnder tagKey)) none ∙ ap (λ (k : ℕ). 20 + tagSize k) (sym laid)
+    in
+    let answered : a ≡ gives n =
+    drop-answers key tagKey file list before count a after e d .accepted whole borne (omega arith) ∙ ap gives size
+    in
+    let given : Drops key tagKey file list before (gives n) after =
+    subst (λ (b : Answer). Drops key tagKey file list before b after) answered d
+    in (
+      answered,
+      drop-leaves key tagKey file list before n after given .archive .accepted ∙ ap (λ (js : List Job). gives (length js)) none,
     )
 
 -- whatever was answered: an archive that is given lies within the buffer

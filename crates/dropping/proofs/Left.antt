@@ -49,7 +49,8 @@ module _ (named : List Bool) (file : List ℕ) (i : ℕ) where
   pub entry-here : (start : ℕ) → getD named i false ≡ false
       → entryOf (jobAt file i .number) start (length (bodyAt file i)) ≡ directoryFrom start (leftAt named file i)
   unfolding directoryFrom
-  entry-here start e = sym (append-nil (entryOf (jobAt file i .number) start (length (bodyAt file i)))) ∙ ap (directoryFrom start) (left-here e)
+  entry-here start e =
+      sym (append-nil (entryOf (jobAt file i .number) start (length (bodyAt file i)))) ∙ ap (directoryFrom start) (left-here e)
 
   pub count-here : length (leftAt named file i) ≡ cond (getD named i false) 0 1
   unfolding leftAt

@@ -177,7 +177,8 @@ sized-2 layout h = by-layout (eqb layout 2) refl
 
 -- ---- the jobs left
 
-module _ (key tagKey file list : List ℕ) (check : firstOf (checkCases key tagKey file) ≡ 0) (asked : firstOf (listCases file list) ≡ 0) where
+module _ (key tagKey file list : List ℕ) (check : firstOf (checkCases key tagKey file) ≡ 0)
+    (asked : firstOf (listCases file list) ≡ 0) where
   good : header.HeaderGood (layoutUnder tagKey) (length key) (keyCheck (scheduleOf key)) file
   good = accepted-header orderOf key tagKey file check
 

@@ -1,12 +1,12 @@
 -- What dropping leaves (02, g), as statements on any call that meets its contract. The theorems are `drop-leaves`, `drop-shortens`,
--- `drop-none`, `drop-once` and `drop-all` of proofs/Leaves.
+-- `drop-none`, `drop-once` and `drop-all` of proofs/Leaves. What it answers is for specs/Answers.
 -- Assumes nothing.
 use mathlib.Core.Path.{_≡_}
-use mathlib.Core.Bool.{true, false}
+use mathlib.Core.Bool.{true}
 use mathlib.Core.List.{List, [], _++_}
 use Prim.Native.Nat.{ℕ, _+_, _%_, _<_, _≤_}
 use lib.ListN.{length, take, drop}
-use Rattle.refusals.specs.Answers.{Answer, refused, gives}
+use Rattle.refusals.specs.Answers.{Answer, refused, gives, refusalIn}
 use Rattle.octets.specs.Numbers.{Octets}
 use Rattle.header.specs.Fields.{layoutOf, tagSize, keyLengthOf, countOf, archiveNumber, directoryOf}
 use Rattle.directory.specs.Entries.{entryAt, numberOf}
@@ -16,11 +16,13 @@ use Rattle.opening.specs.Open.{jobSize, Opens}
 use Rattle.codec.specs.Archive.{jobsOf}
 use Rattle.joblist.specs.List.{numbers, listed, isListed}
 use Rattle.dropping.specs.Drop.{jobsLeft, Drops}
+use Rattle.dropping.specs.Answers.{Borne}
 
--- a number that is not in the list, on what is left: its sealed body is handed back as before, and opening it, the whole and any range,
--- answers and writes what it did on the old file, by whose contract both are settled. So it does of a number that the archive never had,
--- which gets 18 or 19 as before
+-- a number that is not in the list, on what is left: it is found where it was found, and else refused as before; its sealed body is handed
+-- back as before, and opening it, the whole and any range, answers and writes what it did on the old file, by whose contract both are
+-- settled. So it does of a number that the archive never had, which gets 18 or 19 as before
 pub record AsBefore (key tagKey file new number : List ℕ) : Type 0 where
+  pub finds : (a b : Answer) → Finds key tagKey new number a → Finds key tagKey file number b → refusalIn a ≡ refusalIn b
   pub body : bodyGiven key tagKey new number ≡ bodyGiven key tagKey file number
   pub size : jobSize new number ≡ jobSize file number
   pub opens : (first count : ℕ) (before : List ℕ) (a : Answer) (after : List ℕ)
@@ -43,7 +45,7 @@ pub record LeftArchive (key tagKey file list new : List ℕ) (n : ℕ) : Type 0 
   pub keyed : keyLengthOf new ≡ keyLengthOf file
   pub named : archiveNumber new ≡ archiveNumber file
   pub jobs : jobsOf new ≡ jobsLeft file list
-  pub stays : (number : List ℕ) → isListed list number ≡ false → AsBefore key tagKey file new number
+  pub stays : (number : List ℕ) → ((k : ℕ) → k < numbers list → listed list k ≡ number → ⊥) → AsBefore key tagKey file new number
   pub gone : (k : ℕ) → k < numbers list → Gone key tagKey new (listed list k)
 
 -- of any call that meets the contract of dropping and gives n, the first n bytes of the buffer are that, and the rest is as it was
@@ -66,17 +68,19 @@ DropNone = (key tagKey file before : List ℕ) (count : ℕ) (a : Answer) (after
     → length file ≤ length before → Drops key tagKey file [] before a after
     → (a ≡ gives (length file)) × (after ≡ file ++ drop (length file) before)
 
--- "A number listed twice counts once": how often a number is listed, and in which order, does not matter. Where a list is accepted and gives
--- n, another that has the same numbers, in whole numbers, gives n too in any buffer long enough, and writes the same archive
+-- "A number listed twice counts once": how often a number is listed, and in which order, does not matter. Where a list is accepted and
+-- gives n, another of whole numbers that has the same ones gives n too, in any buffer long enough, and writes the same archive
 abbrev pub DropOnce : Type 0
 DropOnce = (key tagKey file list other before held : List ℕ) (n : ℕ) (after : List ℕ) (a : Answer) (left : List ℕ)
     → ((number : List ℕ) → isListed list number ≡ isListed other number) → length other % 8 ≡ 0 → n ≤ length held
     → Drops key tagKey file list before (gives n) after → Drops key tagKey file other held a left
     → (a ≡ gives n) × (left ≡ take n after ++ drop n held)
 
--- "an archive of no jobs may result": where the number of every entry is listed, what is left has as many bytes as header and tag, and is
--- accepted, with no jobs
+-- "an archive of no jobs may result": a list of the numbers of all entries, in whole numbers, is accepted where there is room for header
+-- and tag, and what is left has no other bytes, and is accepted, with no jobs
 abbrev pub DropAll : Type 0
-DropAll = (key tagKey file list before : List ℕ) (n : ℕ) (after : List ℕ)
+DropAll = (key tagKey file list before : List ℕ) (count : ℕ) (a : Answer) (after : List ℕ) → checkOf key tagKey file ≡ gives count
+    → length list % 8 ≡ 0 → ((k : ℕ) → k < numbers list → Borne file (listed list k))
     → ((i : ℕ) → i < countOf file → isListed list (numberOf (entryAt (directoryOf file) i)) ≡ true)
-    → Drops key tagKey file list before (gives n) after → (n ≡ 20 + tagSize (layoutOf file)) × (checkOf key tagKey (take n after) ≡ gives 0)
+    → 20 + tagSize (layoutOf file) ≤ length before → Drops key tagKey file list before a after
+    → (a ≡ gives (20 + tagSize (layoutOf file))) × (checkOf key tagKey (take (20 + tagSize (layoutOf file)) after) ≡ gives 0)

@@ -1,3 +1,4 @@
 pub mod Drop
+pub mod Answers
 pub mod Leaves
 pub mod Internal

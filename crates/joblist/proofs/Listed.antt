@@ -1,17 +1,20 @@
--- Numbers that are in a list, and the entries that it names in a sound directory.
+-- Numbers of a list: all of them, those that are in it and those that are not, and the entries that it names in a sound directory.
 -- Assumes nothing.
-use mathlib.Core.Path.{_≡_, sym, ap, _∙_}
-use mathlib.Core.Bool.{true, not}
-use mathlib.Core.List.{List}
-use Prim.Native.Nat.{ℕ, _%_, _<_}
+use mathlib.Core.Path.{_≡_, refl, sym, ap, _∙_}
+use mathlib.Core.Bool.{true, false, not}
+use mathlib.Core.List.{List, _++_}
+use Prim.Native.Nat.{ℕ, zero, suc, _+_, _*_, _%_, _<_, _≤_}
+use native.Mathlib.Omega.{arith}
 use borrow.Author.Tests.{eqb-true, eqb-false, eq-eqb, not-true, not-false}
 use lib.Dec.{eqb}
-use lib.ListN.{length}
+use lib.ListN.{length, take}
+use lib.Seq.{take-all, take-add}
 use Rattle.refusals.specs.Cases.{firstOf}
 use Rattle.refusals.proofs.Booleans.{true-false, not-yes, both-ways}
 use Rattle.octets.specs.Equality.{sameBytes}
 use Rattle.octets.proofs.Equality.{same-refl, same-eq, eq-same, ne-same}
 use Rattle.octets.proofs.Below.{all-yes, all-no, all-same}
+use Rattle.blocks.specs.Blocks.{row}
 use Rattle.header.specs.Fields.{directoryOf}
 use Rattle.directory.specs.Entries.{entries, entryAt, numberOf}
 use Rattle.directory.specs.Search.{indexOf, searchCases}
@@ -19,14 +22,34 @@ use Rattle.directory.specs.Sound.{Sound}
 use Rattle.directory.proofs.Searching.{some-inside, some-bears}
 use Rattle.bodies.specs.Bodies.{numberCases}
 use Rattle.bodies.proofs.Numbers.{number-search}
-use Rattle.joblist.specs.List.{numbers, listed, isListed, listCases}
+use Rattle.joblist.specs.List.{numbers, listed, isListed, listCases, ListedAll}
 use Rattle.joblist.specs.Marks.{namedBy, MarksListed}
 use Rattle.joblist.proofs.Cases.{list-none, list-clear}
+
+-- the first n numbers are as many bytes of the list
+listed-front : (list : List ℕ) (n : ℕ) → row (listed list) n ≡ take (8 * n) list
+unfolding row listed
+listed-front list zero = refl
+listed-front list (suc n) =
+    let next : 8 * n + 8 ≡ 8 * suc n = omega arith in
+    ap (λ (l : List ℕ). l ++ listed list n) (listed-front list n)
+    ∙ sym (take-add (8 * n) 8 list)
+    ∙ ap (λ (k : ℕ). take k list) next
+
+pub listed-all : ListedAll
+listed-all list whole =
+    let all : length list ≤ 8 * numbers list = omega arith in
+    listed-front list (numbers list) ∙ take-all (8 * numbers list) list all
 
 -- a number of the list is in it
 pub is-listed : (list : List ℕ) (k : ℕ) → k < numbers list → isListed list (listed list k) ≡ true
 unfolding isListed
 is-listed list k l = ap not (all-no _ (numbers list) k l (ap not (same-refl (listed list k))))
+
+-- one that is none of its numbers is not
+pub listed-no : (list number : List ℕ) → ((k : ℕ) → k < numbers list → listed list k ≡ number → ⊥) → isListed list number ≡ false
+unfolding isListed
+listed-no list number h = ap not (all-yes _ (numbers list) (λ k l. ap not (ne-same (listed list k) number (h k l))))
 
 -- a number that is in a list without a case has none itself
 listed-clear : (file list number : List ℕ) → firstOf (listCases file list) ≡ 0 → isListed list number ≡ true

@@ -3,6 +3,7 @@
 -- number before one that is no job number gives 19, and the other way round 18.
 -- Every definition is over any bytes: bytes after the last whole number belong to none.
 -- Assumes nothing.
+use mathlib.Core.Path.{_≡_}
 use mathlib.Core.Bool.{Bool, not}
 use mathlib.Core.List.{List, _∷_}
 use Prim.Native.Nat.{ℕ, _*_, _/_, _%_}
@@ -11,6 +12,7 @@ use lib.ListN.{length, take, drop}
 use Rattle.refusals.specs.Cases.{Case, when, itemByItem}
 use Rattle.octets.specs.Equality.{sameBytes}
 use Rattle.octets.specs.Below.{allBelow}
+use Rattle.blocks.specs.Blocks.{row}
 use Rattle.bodies.specs.Bodies.{numberCases}
 
 -- how many whole numbers there are
@@ -29,3 +31,7 @@ isListed list number = not (allBelow (λ (k : ℕ). not (sameBytes (listed list 
 unfoldable pub listCases : List ℕ → List ℕ → List Case
 listCases file list =
     when (not (eqb (length list % 8) 0)) 27 ∷ itemByItem (λ (k : ℕ). numberCases file (listed list k)) (numbers list)
+
+-- a list of whole numbers is these numbers, end to end; the theorem is `listed-all` of proofs/Listed
+abbrev pub ListedAll : Type 0
+ListedAll = (list : List ℕ) → length list % 8 ≡ 0 → row (listed list) (numbers list) ≡ list

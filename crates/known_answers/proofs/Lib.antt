@@ -4,3 +4,4 @@ pub mod Sample
 pub mod Tagged
 pub mod Tags
 pub mod Sealed
+pub mod Dropped

@@ -21,7 +21,8 @@ use Rattle.dropping.proofs.drop.Tie as tie
 
 -- the tag key's schedule, where the check is passed
 scheduled : (p : tie.After-admit) → let a = p .before .before .before .before .before .before .args in
-    firstOf (checkCases (a .key .now) (a .tag-key .now) (a .file .now)) ≡ 0 → p .admit .result .«tag_schedule» ≡ scheduleOf (a .tag-key .now)
+    firstOf (checkCases (a .key .now) (a .tag-key .now) (a .file .now)) ≡ 0
+    → p .admit .result .«tag_schedule» ≡ scheduleOf (a .tag-key .now)
 scheduled p check =
     let a = p .before .before .before .before .before .before .args in
     p .admit .ensures .tagged
@@ -39,7 +40,8 @@ mark-requires c κs = search needs
 returns-2 : tie.Need-returns-2
 returns-2 c =
     let asked = c .before .before in
-    list-refused _ _ _ _ _ _ (c .if2 .taken) (sym (asked .before .admit .ensures .number) ∙ asked .if1 .left) (c .before .mark .ensures .number)
+    let check = sym (asked .before .admit .ensures .number) ∙ asked .if1 .left in
+    list-refused _ _ _ _ _ _ (c .if2 .taken) check (c .before .mark .ensures .number)
 
 drop-marked-requires : tie.Need-drop-marked-requires
 drop-marked-requires c κs =
@@ -70,7 +72,8 @@ returns-3 c =
     → getD (marked .mark .result .named) i false ≡ namedBy (a .file .now) (a .list .now) (numbers (a .list .now)) i =
     λ i l.
     marked .mark .ensures .named i l
-    ∙ ap (λ (b : Bool). b && namedBy (a .file .now) (a .list .now) (numbers (a .list .now)) i) (eq-eqb (marked .mark .result .number) 0 none)
+    ∙ ap (λ (b : Bool). b && namedBy (a .file .now) (a .list .now) (numbers (a .list .now)) i)
+    (eq-eqb (marked .mark .result .number) 0 none)
     in
     drop-written (a .key .now) (a .tag-key .now) (a .file .now) (a .list .now) check list _ named (a .out .now) _ _ _
     (scheduled (asked .before) check) (c .before .before .drop-marked .ensures)

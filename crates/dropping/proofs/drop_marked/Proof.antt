@@ -106,8 +106,9 @@ returns-3 c =
     let fits = front-fits (s .args .named) file (s .args .out .now) _ (s .pre .1) end done in
     let room : end + 16 ≤ length (s .args .out .now) = omega (arith, fits) in
     marked-tagged (s .args .tag-schedule) (s .args .named) file (s .args .out .now) _ (s .pre .1) end done two _ _
-    (tagged-done (s .args .tag-schedule) (frontLeft (s .args .named) file) (s .args .out .now) _ _ end (end - 0) _ (tagged .tag-under .result)
-    (s .pre .0 two) (fits .0) (omega arith) (fits .2) room (tagged .tag-under .ensures) (c .before .before .put .ensures))
+    (tagged-done (s .args .tag-schedule) (frontLeft (s .args .named) file) (s .args .out .now) _ _ end (end - 0) _
+    (tagged .tag-under .result) (s .pre .0 two) (fits .0) (omega arith) (fits .2) room (tagged .tag-under .ensures)
+    (c .before .before .put .ensures))
 
 pub drop-marked-spec : {M : Type 1} → statement M
 drop-marked-spec =
