@@ -68,8 +68,8 @@ underKeyCases s keysize tagKey file = underKeyCasesBy orderOf s keysize tagKey f
 abbrev pub checkCases : List ℕ → List ℕ → List ℕ → List Case
 checkCases key tagKey file = checkCasesBy orderOf key tagKey file
 
--- the tag key's schedule, as admission hands it on: of a tag key that is refused, and where there is none, no rounds and zero keys, which
--- `scheduleOf` then is. Where the key is refused no tag key is prepared, and it is that of the refused key: no rounds and zero keys too
+-- the tag key's schedule, as admission hands it on. It has no rounds and zero keys where there is no tag key, where the tag key is refused,
+-- and where the key is refused, beside which no tag key is prepared; `scheduleOf` is that of any bad key, and of no bytes
 unfoldable pub tagScheduleUnder : List ℕ → List ℕ → Schedule
 tagScheduleUnder key tagKey = cond (goodKey (length key)) (scheduleOf tagKey) (scheduleOf key)
 

@@ -1,4 +1,5 @@
--- What the words of `drop` become in the list of job numbers: eight bytes each. The theorem is `no-number` of proofs/Words.
+-- What the words of `drop` become in the list of job numbers: eight bytes each. The theorems are `own-number` and `no-number` of
+-- proofs/Words.
 -- Assumes nothing.
 use mathlib.Core.Path.{_≡_}
 use mathlib.Core.Bool.{true, false, cond}
@@ -12,7 +13,7 @@ use Rattle.jobnumber.specs.Number.{isJobNumber}
 unfoldable pub slotOf : List ℕ → List ℕ
 slotOf word = cond (eqb (length word) 8) word (replicate 8 0)
 
--- a job number stays what it is; the theorem is `own-number` of proofs/Words
+-- a job number stays what it is
 abbrev pub OwnNumber : Type 0
 OwnNumber = (word : List ℕ) → isJobNumber word ≡ true → slotOf word ≡ word
 

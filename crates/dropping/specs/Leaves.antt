@@ -18,9 +18,9 @@ use Rattle.joblist.specs.List.{numbers, listed, isListed}
 use Rattle.dropping.specs.Drop.{jobsLeft, Drops}
 use Rattle.dropping.specs.Answers.{Borne}
 
--- a number that is not in the list, on what is left: it is found where it was found, and else refused as before; its sealed body is handed
--- back as before, and opening it, the whole and any range, answers and writes what it did on the old file, by whose contract both are
--- settled. So it does of a number that the archive never had, which gets 18 or 19 as before
+-- a number that is not in the list, on what is left: finding it is refused with the same number, or not refused, as on the old file; the
+-- same sealed body is handed back; and whatever a call that meets the contract of opening does with the new file, of the whole job or of
+-- any range, meets that contract with the old one. Also of a number that the archive never had: 18 or 19, as before
 pub record AsBefore (key tagKey file new number : List ℕ) : Type 0 where
   pub finds : (a b : Answer) → Finds key tagKey new number a → Finds key tagKey file number b → refusalIn a ≡ refusalIn b
   pub body : bodyGiven key tagKey new number ≡ bodyGiven key tagKey file number
@@ -37,7 +37,7 @@ pub record Gone (key tagKey new number : List ℕ) : Type 0 where
       → (a ≡ refused 19) × (after ≡ before)
 
 -- a file of n bytes is what dropping a list leaves of another: it is accepted under the same keys, of the same layout, key length and
--- archive number, and its jobs are those left, in their order, with their sealed bytes
+-- archive number (`named`), and its jobs are those left, in their order, with their sealed bytes
 pub record LeftArchive (key tagKey file list new : List ℕ) (n : ℕ) : Type 0 where
   pub size : length new ≡ n
   pub accepted : checkOf key tagKey new ≡ gives (length (jobsLeft file list))
@@ -76,8 +76,8 @@ DropOnce = (key tagKey file list other before held : List ℕ) (n : ℕ) (after 
     → Drops key tagKey file list before (gives n) after → Drops key tagKey file other held a left
     → (a ≡ gives n) × (left ≡ take n after ++ drop n held)
 
--- "an archive of no jobs may result": a list of the numbers of all entries, in whole numbers, is accepted where there is room for header
--- and tag, and what is left has no other bytes, and is accepted, with no jobs
+-- "an archive of no jobs may result": a list of the numbers of all entries and of no others, in whole numbers, is accepted where there is
+-- room for header and tag, and what is left has no other bytes, and is accepted, with no jobs
 abbrev pub DropAll : Type 0
 DropAll = (key tagKey file list before : List ℕ) (count : ℕ) (a : Answer) (after : List ℕ) → checkOf key tagKey file ≡ gives count
     → length list % 8 ≡ 0 → ((k : ℕ) → k < numbers list → Borne file (listed list k))

@@ -1,4 +1,4 @@
--- Both samples with a job dropped, and dropping's refusals, come out of the definitions: two computed tests.
+-- Both samples with either job dropped, three jobs without the middle one, and dropping's answers, come out of the definitions: two tests.
 -- Assumes nothing.
 use mathlib.Core.Path.{_≡_, refl}
 use mathlib.Core.Bool.{true}

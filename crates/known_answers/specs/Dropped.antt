@@ -1,5 +1,5 @@
--- Both sample archives with a job dropped, by the definitions that the contract of dropping cites (02, g), byte for byte; and what dropping
--- answers about the limits of its cases, and where two of them meet.
+-- Both sample archives with either job dropped, and one of three jobs without the middle one, by the definitions that the contract of
+-- dropping cites (02, g), byte for byte; and what dropping answers about the limits of its cases, and where two of them meet.
 -- Assumes nothing.
 use mathlib.Core.Path.{_≡_}
 use mathlib.Core.Bool.{Bool}
@@ -31,7 +31,7 @@ sampleLess =
     ∷ 0x32 ∷ 0x34 ∷ 0x30 ∷ 0x30 ∷ 0x30 ∷ 0x30 ∷ 0x31 ∷ 0x37 ∷ 0x00 ∷ 0x00 ∷ 0x00 ∷ 0x24 ∷ 0x00 ∷ 0x00 ∷ 0x00 ∷ 0x05
     ∷ 0x71 ∷ 0xa8 ∷ 0x93 ∷ 0x2a ∷ 0xa6 ∷ []
 
--- the same of the tagged one: layout 2, 57 bytes in all, and the tag of these, which is libcrypto's
+-- the same of the tagged one: layout 2, 57 bytes in all, with the tag of the first 41, which is libcrypto's
 unfoldable pub taggedLess : List ℕ
 taggedLess =
     0x02 ∷ take 18 (drop 1 sampleLess)
@@ -52,8 +52,8 @@ taggedLast =
     ++ (0x34 ∷ drop 20 sampleLast
     ++ (0xc9 ∷ 0x5f ∷ 0x2a ∷ 0xd0 ∷ 0x21 ∷ 0x57 ∷ 0xc2 ∷ 0x47 ∷ 0x6b ∷ 0xa0 ∷ 0x3e ∷ 0xe1 ∷ 0x55 ∷ 0x2a ∷ 0x0a ∷ 0x12 ∷ []))
 
--- three jobs, 24000017 to 24000019, of five, four and three bytes, and without the middle one: the last body moves up past the one that
--- goes
+-- three jobs, 24000017 to 24000019, of five, four and three bytes, sealed by libcrypto, and without the middle one: the last body moves up
+-- past the one that goes
 unfoldable pub threeJobs : List ℕ
 threeJobs =
     0x01 ∷ 0x10 ∷ 0x00 ∷ 0x03 ∷ 0x00 ∷ 0x00 ∷ 0x00 ∷ 0x07
