@@ -396,7 +396,7 @@ def faults_of_left(page):
         "The whole file is %d = 20 + 16 × 1 + %d bytes long in layout 1, and %d = %d + 16 in layout 2."
         % (len(columns[0]), size, len(columns[1]), len(columns[0])),
         "The tag is OpenSSL's too, under the same tag key, of bytes 0 to %d." % (len(columns[0]) - 1),
-        "the list being `%s`, job 24000018 is left, with start 36 and length 0, in %d and %d bytes." % (b"24000017".hex(" "), *one),
+        "by the list `%s`, job 24000018 is left, with start 36 and length 0, in %d and %d bytes." % (b"24000017".hex(" "), *one),
         "Without both, in whichever order they are listed, no jobs are left, in %d and %d bytes." % tuple(both),
     ):
         if said not in page.text or both != other:
