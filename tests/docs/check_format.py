@@ -392,7 +392,7 @@ def faults_of_left(page):
     start, size = (int.from_bytes(columns[0][at : at + 4], "big") for at in (28, 32))
     for said in (
         "One entry stays, that of job %s." % columns[0][20:28].decode(),
-        "The directory has 16 bytes less, so its body moves up from %d to %d = 20 + 16 × 1." % (start + 16, start),
+        "The directory has 16 bytes less, so that job's body moves up from %d to %d = 20 + 16 × 1." % (start + 16, start),
         "The whole file is %d = 20 + 16 × 1 + %d bytes long in layout 1, and %d = %d + 16 in layout 2."
         % (len(columns[0]), size, len(columns[1]), len(columns[0])),
         "The tag is OpenSSL's too, under the same tag key, of bytes 0 to %d." % (len(columns[0]) - 1),
