@@ -1,7 +1,7 @@
 -- What a search does not depend on, and what its early end does not change (02, b): "On any contents whose job numbers are digits,
 -- ascending or not, its answer is the same whatever stands after that entry. All answers on archives are unchanged." The first sentence
--- holds over any bytes, digits or not. The theorems are `early-end` and `unchanged` of proofs/EarlyEnd; archives are for crate opening,
--- specs/EarlyEnd.
+-- holds over any bytes, digits or not. The theorems are `early-end` and `unchanged` of proofs/EarlyEnd; archives are for crate
+-- opened_jobs, specs/EarlyEnd.
 -- They say what is answered. How many entries are looked at on the way is no value, so no contract can say it.
 -- Assumes nothing.
 use mathlib.Core.Path.{_≡_}

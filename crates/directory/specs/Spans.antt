@@ -1,7 +1,7 @@
 -- What the order of years changes in the cases of a directory (02, e): "Archives whose job numbers all lie in the same span are judged as
 -- before; a mixed one in plain number order, accepted until now, gets 14." Before, the order was `jobNumber`. A job number below 70000000
 -- is of the years 2000 to 2069, any other of 1970 to 1999 (crate jobnumber, specs/Order). The theorems are `same-span` and `mixed-span` of
--- proofs/Spans; archives are for crate opening, specs/Spans.
+-- proofs/Spans; archives are for crate opened_jobs, specs/Spans.
 -- Assumes nothing.
 use mathlib.Core.Path.{_≡_}
 use mathlib.Core.Bool.{true}

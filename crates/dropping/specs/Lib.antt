@@ -1,4 +1,2 @@
 pub mod Drop
-pub mod Answers
-pub mod Leaves
 pub mod Internal

@@ -7,7 +7,7 @@
 // block of RFC 5794, A.1, by each engine as `roundtrip::run_by` picks it. Then tags the front of the sample archive, and compares tags,
 // under the key and under schedules.
 // tests/known_answers/make_expected.py makes the stored output from the model of the archive and from libcrypto. The readings marked P are
-// the one theorem of proofs/Readings.
+// `readings-hold` of crate `readings`.
 use archive::Checked;
 use circuit::Schedule;
 use cmac::Tagged;

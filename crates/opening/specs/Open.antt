@@ -71,7 +71,7 @@ openedAs (Bytes n) = gives n
 openedAs (Refused n) = refused n
 
 -- the contract of opening a range: a is its answer, and `after` what stands in the buffer that held `before`. A whole job is the range of
--- `jobSize` bytes from byte 0 on; specs/Ranges has what that comes to
+-- `jobSize` bytes from byte 0 on; specs/Ranges of `opened_jobs` has what that comes to
 pub record Opens (key tagKey file number : List ℕ) (first count : ℕ) (before : List ℕ) (a : Answer) (after : List ℕ) : Type 0 where
   pub answered : a ≡ openOf key tagKey file number first count (length before)
   pub bytes : after ≡ writtenFor a (plainRange (scheduleOf key) file number first count) before

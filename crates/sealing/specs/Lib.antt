@@ -1,7 +1,3 @@
 pub mod Seal
+pub mod OwnJobs
 pub mod Internal
-pub mod Opens
-pub mod Rebuilds
-pub mod Long
-pub mod WrittenOut
-pub mod KeyLength

@@ -1,6 +1,6 @@
 -- What is handed on of a sheet that may be longer than any that is taken: 65 lines are one too many, and 21 is told by the length alone,
 -- so of more than 785 bytes the first 785 and as many as the length is over a whole line are enough. The theorem is `handed-on` of
--- proofs/Long; that they are enough is crate sealing's `LongSheet`.
+-- proofs/Long; that they are enough is `LongSheet` of crate sealed_archives.
 -- Assumes nothing.
 use mathlib.Core.Path.{_≡_}
 use mathlib.Core.Bool.{cond}

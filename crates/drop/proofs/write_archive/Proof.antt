@@ -3,7 +3,7 @@
 use mathlib.Core.Path.{sym, ap}
 use lib.Seq.{length-take-le}
 use Rattle.dropping.specs.Drop.{droppedAs}
-use Rattle.dropping.proofs.Leaves.{drops-fits}
+use Rattle.dropped_jobs.proofs.Leaves.{drops-fits}
 use borrow.Author.Needs.{needs}
 use Rattle.drop.proofs.write_archive.Statement.{statement}
 use Rattle.drop.proofs.write_archive.Tie as tie

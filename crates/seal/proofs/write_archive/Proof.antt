@@ -3,7 +3,7 @@
 use mathlib.Core.Path.{sym, ap}
 use lib.Seq.{length-take-le}
 use Rattle.sealing.specs.Seal.{sealedAs}
-use Rattle.sealing.proofs.Opens.{seals-fits}
+use Rattle.sealed_archives.proofs.Opens.{seals-fits}
 use borrow.Author.Needs.{needs}
 use Rattle.seal.proofs.write_archive.Statement.{statement}
 use Rattle.seal.proofs.write_archive.Tie as tie

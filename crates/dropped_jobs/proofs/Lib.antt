@@ -1,0 +1,3 @@
+pub mod Bearer
+pub mod Answers
+pub mod Leaves
