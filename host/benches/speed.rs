@@ -1,5 +1,5 @@
 //! Speed of both engines, of CMAC and of libcrypto's ARIA, side by side, and of checking an archive,
-//! opening a job and sealing, with and without a tag: `cargo bench`.
+//! opening a job, sealing and dropping, with and without a tag: `cargo bench`.
 //!
 //! Block runs and CMAC are those of the package. Counter mode and the archive are not among its
 //! calls, so they come from a library for the bench and the tests alone, which
@@ -8,8 +8,8 @@
 //! Each figure is the best of several rounds, the engines taking turns within a round so that a slow
 //! spell of the machine meets all of them. Time is the thread's CPU time. Every call prepares its key,
 //! libcrypto's too. Keys are 16 bytes. Before a row is measured all must give the same bytes, what is
-//! opened must be what was sealed, and what is sealed the archive that libcrypto's bytes make. It
-//! asserts nothing about time.
+//! opened must be what was sealed, and what is sealed, or left, the archive that libcrypto's bytes make.
+//! It asserts nothing about time.
 
 #[path = "../tests/support/libcrypto.rs"]
 mod libcrypto;
@@ -97,6 +97,20 @@ extern "C" {
         sheet_len: usize,
         plain: *const u8,
         plain_len: usize,
+        out: *mut u8,
+        out_len: usize,
+    ) -> u32;
+
+    /// An archive without the jobs of a list into the front of a buffer: 0, or the refusal.
+    fn bench_drop(
+        key: *const u8,
+        key_len: usize,
+        tag_key: *const u8,
+        tag_key_len: usize,
+        file: *const u8,
+        file_len: usize,
+        list: *const u8,
+        list_len: usize,
         out: *mut u8,
         out_len: usize,
     ) -> u32;
@@ -414,6 +428,25 @@ fn seal(tag_key: &[u8], sheet: &[u8], plain: &[u8], out: &mut [u8]) {
     assert_eq!(refusal, 0, "bench_seal");
 }
 
+fn drop_jobs(tag_key: &[u8], file: &[u8], list: &[u8], out: &mut [u8]) {
+    // SAFETY: as in `open`.
+    let refusal = unsafe {
+        bench_drop(
+            KEY.as_ptr(),
+            KEY.len(),
+            tag_key.as_ptr(),
+            tag_key.len(),
+            file.as_ptr(),
+            file.len(),
+            list.as_ptr(),
+            list.len(),
+            out.as_mut_ptr(),
+            out.len(),
+        )
+    };
+    assert_eq!(refusal, 0, "bench_drop");
+}
+
 /// Microseconds a call, over so many calls.
 fn microseconds(calls: usize, call: &mut dyn FnMut()) -> f64 {
     let before = thread_seconds();
@@ -567,6 +600,49 @@ fn sealings(buffer: &[u8]) {
     );
 }
 
+/// An archive of jobs of about equal lengths: the check, the last job dropped and all of them, and the
+/// check and the last job dropped of one with a tag.
+fn droppings(buffer: &[u8]) {
+    let mut many = [JOB / JOBS; JOBS];
+    many[JOBS - 1] += JOB % JOBS;
+    let last = number(JOBS);
+    let all: Vec<u8> = (1..=JOBS).flat_map(number).collect();
+    let [file, tagged] = [&[], &TAG_KEY[..]].map(|k| archive_of(&many, buffer, k));
+    let dropped = |tag_key: &[u8], file: &[u8], list: &[u8], left: &[usize]| {
+        let mut out = vec![0; file.len()];
+        drop_jobs(tag_key, file, list, &mut out);
+        assert!(
+            out.starts_with(&archive_of(left, buffer, tag_key)),
+            "another archive than of the other jobs"
+        );
+        out
+    };
+    let mut out = dropped(&[], &file, &last, &many[..JOBS - 1]);
+    let mut emptied = dropped(&[], &file, &all, &[]);
+    let mut tagged_out = dropped(&TAG_KEY, &tagged, &last, &many[..JOBS - 1]);
+    let best = least([
+        (64, &mut || check(&[], &file)),
+        (64, &mut || drop_jobs(&[], &file, &last, &mut out)),
+        (64, &mut || drop_jobs(&[], &file, &all, &mut emptied)),
+        (16, &mut || check(&TAG_KEY, &tagged)),
+        (16, &mut || {
+            drop_jobs(&TAG_KEY, &tagged, &last, &mut tagged_out)
+        }),
+    ]);
+
+    println!("an archive of {JOBS} jobs of {JOB} bytes in all, microseconds a call");
+    let rows = [
+        "the check of key and file",
+        "dropping the last job, with the check",
+        "dropping all jobs, with the check",
+        "tagged, 64 KiB: the check of keys and file",
+        "tagged: dropping the last job, with the check",
+    ];
+    for (row, figure) in rows.iter().zip(best) {
+        println!("{row:<56} {figure:>8.1}");
+    }
+}
+
 fn main() {
     // Filled before the clock runs, so that no page is touched first inside a measurement.
     let mut buffer: Vec<u8> = (0..1 << 20).map(|i: u32| (i % 251) as u8).collect();
@@ -587,4 +663,5 @@ fn main() {
     tags(&mut buffer);
     openings(&mut buffer);
     sealings(&buffer);
+    droppings(&buffer);
 }
