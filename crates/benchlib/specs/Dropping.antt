@@ -1,4 +1,5 @@
--- Dropping jobs, as the tests call it: it answers 0, or the refusal, and nothing else. How long the new archive is, its header says.
+-- Dropping jobs, as the bench and the tests call it: it answers 0, or the refusal, and nothing else. How long the new archive is, its
+-- header says.
 -- Assumes nothing.
 use mathlib.Core.Path.{_≡_}
 use mathlib.Core.List.{List}
