@@ -1,4 +1,5 @@
 // ARIA for programs in Rust and C: what libaria.a exports, and nothing else.
+#![tactic(auto)]
 ghost use Rattle.std.specs.Prelude.{◌≡◌};
 ghost use Rattle.keyed.specs.KeyRun.{RanUnderKey};
 ghost use Rattle.cmac.specs.Tag.{verify_number, WritesTag};

@@ -1,6 +1,7 @@
 // Writes the archive on standard input without the jobs that its words name, under the key in key.bin and the tag key in tag.bin; or, where
 // the first word is `--preview`, prints what `jobs` would print of that archive, and writes none.
 // A refusal goes to standard error, so that a shell can never take one for an archive, and so does what goes wrong outside the archive.
+#![tactic(auto)]
 ghost use Rattle.std.specs.Prelude.{◌≡◌, ◌≤◌};
 ghost use Rattle.drop.specs.Words.{asks_preview, words_before, slot_of};
 

@@ -1,4 +1,5 @@
 // What the programs read: a file by its name, and standard input. An error is told from the end of the input.
+#![tactic(auto)]
 ghost use Rattle.std.specs.Prelude.{◌≡◌, ◌≤◌, ◌<◌, min, length};
 ghost use Rattle.io.specs.Counts.{IsPrefixLen};
 ghost use Rattle.inputs.specs.Filled.{Filled, FailsShort, Beyond};

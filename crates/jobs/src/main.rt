@@ -1,5 +1,6 @@
 // Prints the jobs of the archive on standard input, under the key in key.bin and the tag key in tag.bin. Standard output has the listing or
 // the line of a refusal, and else nothing: what goes wrong outside the archive is said on standard error.
+#![tactic(auto)]
 use libc::{STDERR_FILENO, STDIN_FILENO, STDOUT_FILENO};
 
 fn print_usage() {

@@ -8,6 +8,7 @@
 // under the key and under schedules.
 // tests/known_answers/make_expected.py makes the stored output from the model of the archive and from libcrypto. The readings marked P are
 // `readings_hold` of crate `readings`.
+#![tactic(auto)]
 use archive::Checked;
 use circuit::Schedule;
 use cmac::{Tagged, Verdict};

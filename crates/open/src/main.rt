@@ -1,6 +1,7 @@
 // Writes plain bytes of the job that its first word names, all of them or the range that two more words ask for, from the archive on
 // standard input, under the key in key.bin and the tag key in tag.bin.
 // A refusal goes to standard error, so that plain bytes can never be mistaken for one, and so does what goes wrong outside the archive.
+#![tactic(auto)]
 ghost use Rattle.opening.specs.Open.{job_size, opened_as, Opens};
 ghost use Rattle.open.specs.Asked.{first_in, count_in};
 

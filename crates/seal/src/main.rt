@@ -1,6 +1,7 @@
 // Seals the jobs of sheet.bin into an archive: their plain bytes end to end on standard input, under the key that key.bin begins with and
 // the tag key in tag.bin. Standard output has the archive or the line of a refusal: what goes wrong outside is said on standard error, and
 // then there is no archive; where writing failed, what went out is none.
+#![tactic(auto)]
 ghost use Rattle.std.specs.Prelude.{◌≤◌};
 
 use libc::{STDERR_FILENO, STDIN_FILENO, STDOUT_FILENO};

@@ -1,6 +1,7 @@
 // Runs the published vectors of ARIA by both engines, forward and back, and prints the bytes that it got: those of RFC 5794, appendix A,
 // with the words, round keys and decryption round keys of its three keys and the block after each round, and the ARIA test vectors of 2004.
 // The stored output is of other origin; tests/vectors/make_expected.py makes it, and says what a line is and where its bytes come from.
+#![tactic(auto)]
 ghost use Rattle.std.specs.Prelude.{◌≡◌, ◌%◌, ◌≤◌};
 ghost use Rattle.boxes.specs.Boxes.{box_by};
 ghost use Rattle.circuit.specs.Circuit.{round_after, rounds, circuit};

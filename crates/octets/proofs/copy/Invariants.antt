@@ -1,0 +1,17 @@
+-- `octets::copy` meets its contract: after j turns the first j bytes are copied; the loop ends with the bytes or with the buffer.
+use mathlib.Core.Path.{◌≡◌, refl, ap, ◌∙◌}
+use mathlib.Core.List.{List}
+use Prim.Native.Nat.{ℕ, ◌≤◌, ◌<◌, ◌-◌}
+use native.Mathlib.Omega.{arith}
+use borrow.Author.Rules.{rules}
+use borrow.Author.Tests.{ltb-true, ltb-false}
+use lib.ListN.{length, get_or, set, length-set}
+use Rattle.octets.proofs.Fill.{filled, filled_set}
+use Rattle.octets.proofs.Parts.{copied_all, copied_full}
+use Rattle.octets.proofs.copy.Given as goal
+
+abbrev pub invariant-loop-j : goal.invariant-loop-j
+invariant-loop-j l = (l.j ≤ length l.bytes) × (l.j ≤ length l.initial.out) × (length l.out ≡ length l.initial.out) × (l.out ≡ filled l.bytes l.initial.out l.j)
+
+abbrev pub decreases-loop-j : goal.decreases-loop-j
+decreases-loop-j l = length l.bytes - l.j
