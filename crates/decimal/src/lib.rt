@@ -1,5 +1,6 @@
 // Numbers in decimal: whether bytes are digits, the value of a digit, and the number that a word is. Every call is total.
 #![tactic(auto)]
+
 ghost use Rattle.std.specs.Prelude.{◌≡◌, false, ◌<◌};
 ghost use Rattle.decimal.specs.Decimal.{is_digit, all_digits, digit_value};
 ghost use Rattle.decimal.specs.Word.{Reads};

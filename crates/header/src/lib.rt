@@ -1,5 +1,6 @@
 // The header of an archive: its fields, its checks, and where directory, bodies and tag lie by it. Every call is total.
 #![tactic(auto)]
+
 ghost use Rattle.std.specs.Prelude.{◌≡◌, ◌+◌, ◌<◌, ◌≤◌};
 ghost use Rattle.refusals.specs.Cases.{first_of};
 ghost use Rattle.header.specs.Fields.{layout_of, is_layout, tag_size, count_of, NumberPart, directory_end, DirectoryPart, bodies_end};

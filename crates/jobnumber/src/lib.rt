@@ -1,5 +1,6 @@
 // Job numbers, at the front of a slice of bytes: whether they are digits, and their order. Every call is total.
 #![tactic(auto)]
+
 ghost use Rattle.std.specs.Prelude.{◌≡◌, ◌+◌, ◌*◌, ◌<◌};
 ghost use Rattle.decimal.specs.Decimal.{digit_value};
 ghost use Rattle.jobnumber.specs.Number.{digits, is_job_number, job_number, century_of, order_of};

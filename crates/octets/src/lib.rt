@@ -1,5 +1,6 @@
 // Bytes in slices: numbers, equality, parts with their place, copying and putting. Every call is total.
 #![tactic(auto)]
+
 ghost use Rattle.std.specs.Prelude.{◌≡◌, ◌<◌, get_or};
 ghost use Rattle.octets.specs.Numbers.{be16, be32, bytes32};
 ghost use Rattle.octets.specs.Equality.{same_bytes};

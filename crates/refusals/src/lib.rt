@@ -1,6 +1,7 @@
 // Refusals, in 01's numbers: which case applies first, and what a call answers and leaves. The code has the test of a round count, which
 // several calls share.
 #![tactic(auto)]
+
 ghost use Rattle.std.specs.Prelude.{◌≡◌};
 ghost use Rattle.refusals.specs.Cases.{first_of};
 ghost use Rattle.refusals.specs.Shared.{rounds_cases};

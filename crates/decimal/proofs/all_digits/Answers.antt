@@ -1,14 +1,9 @@
 -- `decimal::all_digits` meets its contract: the invariant says that the bytes before k are digits.
-use mathlib.Core.Path.{◌≡◌, sym}
-use mathlib.Core.Bool.{true}
-use Prim.Native.Nat.{ℕ, ◌<◌, ◌≤◌, ◌-◌}
+use mathlib.Core.Path.{sym}
 use native.Mathlib.Omega.{arith}
 use borrow.Author.Count.{below_more}
 use borrow.Author.Tests.{not-true, not-false}
-use lib.ListN.{get_or}
 use Rattle.octets.proofs.Below.{all_yes, all_no}
-use Rattle.decimal.specs.Decimal.{is_digit}
-use borrow.Author.Rules.{rules}
 use Rattle.decimal.proofs.all_digits.Goals as goal
 
 pub loop-k-init : goal.loop-k-init

@@ -2,7 +2,6 @@
 use mathlib.Core.Path.{sym, ◌∙◌}
 use borrow.Author.Tests.{not-true, not-false}
 use Rattle.decimal.proofs.Reading.{word_empty, word_long, word_other, word_digits}
-use borrow.Author.Rules.{rules}
 use Rattle.decimal.proofs.read.Goals as goal
 
 pub returns-then-n-eq0 : goal.returns-then-n-eq0

@@ -1,13 +1,10 @@
 -- `decimal::read_digits` meets its contract: after k turns the value is that of the first k digits. A digit with which it does not fit is
 -- found before it is added.
-use mathlib.Core.Path.{◌≡◌, refl}
+use mathlib.Core.Path.{refl}
 use mathlib.Core.List.{List}
-use Prim.Native.Nat.{ℕ, ◌≤◌, ◌<◌, ◌-◌}
+use Prim.Native.Nat.{ℕ}
 use native.Mathlib.Omega.{arith}
-use lib.ListN.{length}
-use Rattle.decimal.specs.Decimal.{decimal_value}
 use Rattle.decimal.proofs.Reading.{value_next, digits_over, digits_end}
-use borrow.Author.Rules.{rules}
 use Rattle.decimal.proofs.read_digits.Goals as goal
 
 pub loop-k-init : goal.loop-k-init

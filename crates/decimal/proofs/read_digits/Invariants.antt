@@ -1,13 +1,9 @@
 -- `decimal::read_digits` meets its contract: after k turns the value is that of the first k digits. A digit with which it does not fit is
 -- found before it is added.
-use mathlib.Core.Path.{◌≡◌, refl}
-use mathlib.Core.List.{List}
-use Prim.Native.Nat.{ℕ, ◌≤◌, ◌<◌, ◌-◌}
-use native.Mathlib.Omega.{arith}
+use mathlib.Core.Path.{◌≡◌}
+use Prim.Native.Nat.{◌≤◌, ◌<◌, ◌-◌}
 use lib.ListN.{length}
 use Rattle.decimal.specs.Decimal.{decimal_value}
-use Rattle.decimal.proofs.Reading.{value_next, digits_over, digits_end}
-use borrow.Author.Rules.{rules}
 use Rattle.decimal.proofs.read_digits.Given as goal
 
 abbrev pub invariant-loop-k : goal.invariant-loop-k

@@ -1,12 +1,11 @@
 -- `octets::copy` meets its contract: after j turns the first j bytes are copied; the loop ends with the bytes or with the buffer.
-use mathlib.Core.Path.{◌≡◌, refl, ap, ◌∙◌}
+use mathlib.Core.Path.{refl, ap, ◌∙◌}
 use mathlib.Core.List.{List}
-use Prim.Native.Nat.{ℕ, ◌≤◌, ◌<◌, ◌-◌}
+use Prim.Native.Nat.{ℕ, ◌≤◌, ◌<◌}
 use native.Mathlib.Omega.{arith}
 use borrow.Author.Rules.{rules}
-use borrow.Author.Tests.{ltb-true, ltb-false}
 use lib.ListN.{length, get_or, set, length-set}
-use Rattle.octets.proofs.Fill.{filled, filled_set}
+use Rattle.octets.proofs.Fill.{filled_set}
 use Rattle.octets.proofs.Parts.{copied_all, copied_full}
 use Rattle.octets.proofs.copy.Goals as goal
 

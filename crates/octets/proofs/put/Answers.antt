@@ -1,7 +1,6 @@
 -- `octets::put` meets its contract: where the bytes fit, they take the place of as many.
 use Prim.Native.Nat.{ℕ, ◌+◌, ◌-◌}
 use native.Mathlib.Omega.{arith}
-use borrow.Author.Rules.{rules}
 use lib.ListN.{length}
 use Rattle.octets.proofs.Laying.{puts_none, puts_some}
 use Rattle.octets.proofs.put.Goals as goal
