@@ -1,6 +1,7 @@
 // ARIA's circuit as a definition over any boxes, the schedule that a run works under, and what every engine promises of a run. The code
 // needs no box: it takes round keys out of a schedule, and answers the refusals of a run.
 #![tactic(auto)]
+
 ghost use Rattle.std.specs.Prelude.{◌≡◌};
 ghost use Rattle.circuit.specs.Circuit.{key_at};
 ghost use Rattle.circuit.specs.Run.{run_number};
