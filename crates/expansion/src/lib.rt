@@ -64,7 +64,7 @@ pub fn constants(n: usize) -> [[u8; 16]; 3]
 }
 
 // The two ways to rotate.
-#[derive(Drop)]
+#[derive(Clone, Copy)]
 enum Side {
     Right,
     Left,

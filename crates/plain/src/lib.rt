@@ -1,5 +1,6 @@
 // The plain engine: ARIA's rounds byte by byte, over the four boxes.
 #![tactic(auto)]
+
 ghost use Rattle.std.specs.Prelude.{◌≡◌, true, ◌%◌, length};
 ghost use Rattle.refusals.specs.Shared.{good_rounds};
 ghost use Rattle.blocks.specs.Runs.{each_block};

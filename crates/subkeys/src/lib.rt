@@ -1,6 +1,7 @@
 // The subkeys of CMAC (SP 800-38B, section 6.1): K1 is made of L, and K2 of K1 by the same rule. L is as secret as the key, so no branch
 // depends on it.
 #![tactic(auto)]
+
 ghost use Rattle.std.specs.Prelude.{◌≡◌, cond, ◌+◌, ◌*◌, ◌/◌, ◌%◌, ◌<◌, ltb, get_or};
 ghost use Rattle.blocks.specs.Chains.{zero_block};
 ghost use Rattle.subkeys.specs.Subkeys.{shifted_left, r128, doubled, subkey_for};
