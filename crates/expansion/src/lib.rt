@@ -1,5 +1,6 @@
 // From the words of a key to its round keys, and from a schedule to its decryption schedule: what needs no box.
 #![tactic(auto)]
+
 ghost use Rattle.std.specs.Prelude.{◌≡◌, [], ◌++◌, ◌*◌, ◌≤◌, get_or, take, drop, replicate};
 ghost use Rattle.expansion.specs.Outcomes.{number};
 ghost use Rattle.expansion.specs.Internal.{rotated_to};
