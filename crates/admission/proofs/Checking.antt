@@ -5,8 +5,6 @@ use mathlib.Core.Path.{◌≡◌, refl, sym, ap, ◌∙◌}
 use mathlib.Core.Bool.{Bool, true, false, not, cond, ◌&&◌}
 use mathlib.Core.List.{List, [], ◌∷◌, ◌++◌, append_assoc}
 use Prim.Native.Nat.{ℕ}
-use denote.Enum.Declared.{tag_of}
-use types.Run.{OneOf}
 use lib.Dec.{eqb}
 use lib.ListN.{length}
 use Rattle.refusals.specs.Cases.{first_of, positive, lacks}
@@ -19,7 +17,6 @@ use Rattle.expansion.specs.Outcomes.{number}
 use Rattle.expansion.specs.KeySchedule.{schedule_of, Prepares}
 use Rattle.expansion.specs.declared.Outcome.TheVariants.{Ready}
 use Rattle.expansion.specs.declared.Prepared.{Prepared}
-use Rattle.expansion.specs.contracts.Outcome as outcome
 use Rattle.expansion.proofs.Taken.{number_else}
 use Rattle.header.specs.Fields.{layout_under, directory_end, directory_of, bodies_end}
 use Rattle.header.specs.Cases.{header_cases}
@@ -97,7 +94,7 @@ unfolding tag_schedule_under
 tag_schedule_good key tag_key e = rw e
 
 -- beside a key that is refused
-pub tag_schedule_else : (key tag_key : List ℕ) (p : Prepared) → Prepares key p → OneOf (1 ∷ 2 ∷ []) (tag_of outcome.the_type p.outcome)
+pub tag_schedule_else : (key tag_key : List ℕ) (p : Prepared) → Prepares key p → (p.outcome ≡ Ready → ⊥)
     → schedule_of key ≡ tag_schedule_under key tag_key
 unfolding tag_schedule_under
 tag_schedule_else key tag_key p r t = by_test (good_key (length key)) refl
@@ -110,7 +107,7 @@ tag_schedule_else key tag_key p r t = by_test (good_key (length key)) refl
 
 module _ (key tag_key file : List ℕ) (p : Prepared) (r : Prepares key p) (n : ℕ) where
   -- the key is refused
-  pub check_else : OneOf (1 ∷ 2 ∷ []) (tag_of outcome.the_type p.outcome) → n ≡ number p.outcome
+  pub check_else : (p.outcome ≡ Ready → ⊥) → n ≡ number p.outcome
       → n ≡ first_of (check_cases key tag_key file)
   unfolding check_cases_by
   check_else t e =

@@ -5,8 +5,6 @@ use mathlib.Core.Bool.{true, not}
 use mathlib.Core.List.{List, [], ◌∷◌, ◌++◌, append-nil}
 use Prim.Native.Nat.{ℕ, ◌+◌, ◌-◌, ◌≤◌}
 use native.Mathlib.Omega.{arith}
-use denote.Enum.Declared.{tag_of as variant_of}
-use types.Run.{OneOf}
 use borrow.Author.Tests.{eq-eqb, ne_eqb}
 use lib.ListN.{length, take, drop, length-drop, drop_of_length-le}
 use lib.Seq.{take_all}
@@ -21,7 +19,6 @@ use Rattle.expansion.specs.Outcomes.{number}
 use Rattle.expansion.specs.KeySchedule.{schedule_of, Prepares}
 use Rattle.expansion.specs.declared.Outcome.TheVariants.{Ready}
 use Rattle.expansion.specs.declared.Prepared.{Prepared}
-use Rattle.expansion.specs.contracts.Outcome as outcome
 use Rattle.expansion.proofs.Taken.{number_else}
 use Rattle.cmac.specs.Tag.{tag_under, verify_number_under}
 use Rattle.cmac.proofs.Answers.{verify_same}
@@ -115,7 +112,7 @@ module _ (s : Schedule) (keysize : ℕ) (tag_key file : List ℕ) (n : ℕ) wher
     judged = tag_key_some (length tag_key) some ∙ sym r.number
 
     -- the tag key is refused
-    pub tagged_else : OneOf (1 ∷ 2 ∷ []) (variant_of outcome.the_type p.outcome) → n ≡ number p.outcome
+    pub tagged_else : (p.outcome ≡ Ready → ⊥) → n ≡ number p.outcome
         → n ≡ first_of (under_key_cases s keysize tag_key file)
     unfolding under_key_cases_by
     tagged_else t e =

@@ -2,6 +2,7 @@
 // for a file. They are parts of finding and opening, made after `admission::admit`, and are not 01's finding: a reader of archives calls
 // `archive` and `opening`, which begin with the whole check.
 #![tactic(auto)]
+
 ghost use Rattle.std.specs.Prelude.{◌≡◌};
 ghost use Rattle.directory.specs.Search.{found_as};
 ghost use Rattle.bodies.specs.Bodies.{lookup_of, BodyPart};

@@ -7,7 +7,7 @@ ghost use Rattle.circuit.specs.Circuit.{key_at};
 ghost use Rattle.circuit.specs.Run.{run_number};
 
 // A round count and seventeen round keys of sixteen bytes; key i, counted from 0, at bytes 16 i to 16 i + 15.
-#[derive(Drop)]
+#[derive(Clone, Copy)]
 pub struct Schedule {
     pub rounds: usize,
     pub keys: [u8; 272],

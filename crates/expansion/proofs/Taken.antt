@@ -1,13 +1,10 @@
 -- An outcome taken apart by `let .. else`: what each arm tells of its number, and what a schedule that is ready is good for.
 -- Assumes nothing.
-use mathlib.Core.Path.{◌≡◌, sym, ap, ◌∙◌}
+use mathlib.Core.Path.{◌≡◌, refl, sym, ap, ◌∙◌}
 use mathlib.Core.Bool.{true}
-use mathlib.Core.List.{List, [], ◌∷◌}
-use mathlib.Core.Logic.{⊎_elim}
+use mathlib.Core.List.{List}
 use Prim.Native.Nat.{ℕ}
 use native.Mathlib.Omega.{arith}
-use denote.Enum.Declared.{tag_of}
-use types.Run.{OneOf}
 use lib.ListN.{length}
 use Rattle.refusals.specs.Shared.{good_key, good_rounds}
 use Rattle.refusals.proofs.Shared.{key_good}
@@ -16,14 +13,13 @@ use Rattle.expansion.specs.KeySchedule.{Prepares}
 use Rattle.expansion.specs.declared.Outcome.{Outcome}
 use Rattle.expansion.specs.declared.Outcome.TheVariants.{Ready, KeyLength, RoundCount}
 use Rattle.expansion.specs.declared.Prepared.{Prepared}
-use Rattle.expansion.specs.contracts.Outcome as outcome
 use Rattle.expansion.proofs.KeyLengths.{good_rounds_lem}
 
 -- the arm for the outcomes other than Ready
-pub number_else : (o : Outcome) → OneOf (1 ∷ 2 ∷ []) (tag_of outcome.the_type o) → number o ≡ 0 → ⊥
-number_else Ready t e = ⊎_elim (λ w. omega arith) (λ w. omega arith) t
-number_else KeyLength t e = omega arith
-number_else RoundCount t e = omega arith
+pub number_else : (o : Outcome) → (o ≡ Ready → ⊥) → number o ≡ 0 → ⊥
+number_else Ready other e = other refl
+number_else KeyLength other e = omega arith
+number_else RoundCount other e = omega arith
 
 -- the arm for Ready
 module _ (key : List ℕ) (p : Prepared) (r : Prepares key p) (ready : p.outcome ≡ Ready) where

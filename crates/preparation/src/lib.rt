@@ -1,5 +1,6 @@
 // Key preparation (01): the words of a key by the byte boxes, and from these its schedule.
 #![tactic(auto)]
+
 ghost use Rattle.std.specs.Prelude.{◌≡◌};
 ghost use Rattle.boxes.specs.Boxes.{box_by};
 ghost use Rattle.expansion.specs.KeySchedule.{words_by, words_of, Prepares};

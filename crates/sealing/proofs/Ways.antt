@@ -5,8 +5,6 @@ use mathlib.Core.Bool.{true}
 use mathlib.Core.List.{List, [], ◌∷◌, ◌++◌, append_assoc}
 use Prim.Native.Nat.{ℕ, ◌+◌, ◌*◌, ◌<◌, ◌≤◌}
 use native.Mathlib.Omega.{arith}
-use denote.Enum.Declared.{tag_of as variant_of}
-use types.Run.{OneOf}
 use borrow.Author.Tests.{lt-ltb}
 use lib.ListN.{length, take, drop, length-append}
 use lib.Seq.{length-take-le}
@@ -22,7 +20,6 @@ use Rattle.expansion.specs.Outcomes.{number}
 use Rattle.expansion.specs.KeySchedule.{schedule_of, Prepares}
 use Rattle.expansion.specs.declared.Outcome.TheVariants.{Ready}
 use Rattle.expansion.specs.declared.Prepared.{Prepared}
-use Rattle.expansion.specs.contracts.Outcome as outcome
 use Rattle.expansion.proofs.Taken.{number_else}
 use Rattle.cmac.specs.Tag.{tag_under}
 use Rattle.header.specs.Fields.{layout_under, tag_size}
@@ -158,7 +155,7 @@ module _ (s : Schedule) (tag_key sheet plain before : List ℕ) where
     judged = tag_key_some (length tag_key) some ∙ sym r.number
 
     -- it is refused
-    pub under_else : OneOf (1 ∷ 2 ∷ []) (variant_of outcome.the_type p.outcome) → (n : ℕ) → n ≡ number p.outcome
+    pub under_else : (p.outcome ≡ Ready → ⊥) → (n : ℕ) → n ≡ number p.outcome
         → SealsUnder s tag_key sheet plain before (refused n) before
     unfolding written_for
     under_else t n e =
@@ -191,7 +188,7 @@ module _ (s : Schedule) (tag_key sheet plain before : List ℕ) where
 
 -- a key file that is long enough for a sheet without a case gives a key that is not refused
 pub key_taken : (key_file sheet : List ℕ) → first_of (sheet_cases sheet) ≡ 0 → key_size_on sheet ≤ length key_file → (p : Prepared)
-    → Prepares (key_on key_file sheet) p → OneOf (1 ∷ 2 ∷ []) (variant_of outcome.the_type p.outcome) → ⊥
+    → Prepares (key_on key_file sheet) p → (p.outcome ≡ Ready → ⊥) → ⊥
 key_taken key_file sheet none enough p r t =
     let good : good_key (length (key_on key_file sheet)) ≡ true =
     ap good_key (length-take-le (key_size_on sheet) key_file enough) ∙ key_size_good sheet (sheet_good sheet none).sized

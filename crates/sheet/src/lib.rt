@@ -1,5 +1,6 @@
 // The job sheet, as bare bytes: its fields, its lines and their checks. Every call is total.
 #![tactic(auto)]
+
 ghost use Rattle.std.specs.Prelude.{◌≡◌, ◌<◌};
 ghost use Rattle.refusals.specs.Cases.{first_of};
 ghost use Rattle.jobnumber.specs.Number.{order_of};
