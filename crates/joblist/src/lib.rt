@@ -1,6 +1,7 @@
 // A list of job numbers, eight bytes a number: its checks against the directory of a file, and which entries it names. The call is total,
 // and takes any bytes for a file. Each number of the list is searched for once.
 #![tactic(auto)]
+
 ghost use Rattle.std.specs.Prelude.{◌≡◌, false, ◌||◌, ℕ, ◌<◌, eqb, get_or};
 ghost use Rattle.refusals.specs.Answers.{refusal_in};
 ghost use Rattle.directory.specs.Search.{found_as};

@@ -1,5 +1,6 @@
 // Block runs under a key, forward and back, by each engine.
 #![tactic(auto)]
+
 ghost use Rattle.std.specs.Prelude.{◌≡◌};
 ghost use Rattle.keyed.specs.KeyRun.{directed, RanUnderKey};
 
