@@ -1,6 +1,7 @@
 // Counter mode (SP 800-38A, section 6.5) under a key schedule: each byte of a run xor the keystream byte of its place, from any first byte
 // on. The keystream is the counter blocks in a row, each encrypted.
 #![tactic(auto)]
+
 ghost use Rattle.std.specs.Prelude.{◌≡◌, true, ◌+◌, ◌*◌, ◌/◌, ◌%◌, ◌≤◌, min, length, replicate};
 ghost use Rattle.refusals.specs.Shared.{good_rounds};
 ghost use Rattle.blocks.specs.Runs.{each_block};

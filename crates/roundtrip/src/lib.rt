@@ -1,5 +1,6 @@
 // Demand 3 in code: a run under a schedule, its decryption schedule, and a run under that, on one run, by any two of the engines.
 #![tactic(auto)]
+
 ghost use Rattle.circuit.specs.Run.{Ran};
 ghost use Rattle.roundtrip.specs.RoundTrip.{RoundTripped};
 
