@@ -2,6 +2,10 @@
 -- Assumes nothing.
 use Rattle.std.specs.Prelude.{◌≡◌, Bool, true, List, ℕ, ◌≤◌, ◌<◌, length, take, drop}
 
+-- n bytes stand at the front of a buffer. The second part follows from the first; it is what lending the front of the buffer asks
+abbrev pub IsPrefixLen : ℕ → List ℕ → Type 0
+IsPrefixLen n buf = (n ≤ length buf) × (n ≡ length (take n buf))
+
 -- n bytes at the front of a buffer that held `before` may have been read: it holds `after`, as long as it was and unaltered past these n.
 -- Which bytes they are, and how many up to the buffer's length, is the operating system's choice. `front` follows from `within`; it is
 -- what lending the front of the buffer asks

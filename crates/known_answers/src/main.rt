@@ -9,12 +9,12 @@
 // tests/known_answers/make_expected.py makes the stored output from the model of the archive and from libcrypto. The readings marked P are
 // `readings_hold` of crate `readings`.
 #![tactic(auto)]
+
 use archive::Checked;
 use circuit::Schedule;
 use cmac::{Tagged, Verdict};
 use directory::Found;
 use expansion::Outcome;
-use libc::STDOUT_FILENO;
 use opening::Opened;
 use roundtrip::Engine;
 use sealing::Sealed;
@@ -22,28 +22,29 @@ use sealing::Sealed;
 // The key of RFC 5794, A.1.
 const KEY: [u8; 16] = [0, 1, 2, 3, 4, 5, 6, 7, 8, 9, 10, 11, 12, 13, 14, 15];
 
-fn print(text: &[u8]) {
-    io::write_all(STDOUT_FILENO, text);
+fn print(rt: &HostRuntime, text: &[u8]) {
+    let _ = rt.write_all(text);
 }
 
-fn print_hex(bytes: &[u8]) {
+fn print_hex(rt: &HostRuntime, bytes: &[u8]) {
     let mut i: usize = 0;
     while i < bytes.len() {
-        io::print_hex(STDOUT_FILENO, octets::byte_at(bytes, i) as u64, 2);
+        let byte = octets::byte_at(bytes, i);
+        let _ = print!(rt; "{byte:02x}");
         i += 1;
     }
 }
 
 // A line: the case, and bytes.
-fn print_line(case: &[u8], bytes: &[u8]) {
-    print(case);
-    print_hex(bytes);
-    print(b"\n");
+fn print_line(rt: &HostRuntime, case: &[u8], bytes: &[u8]) {
+    print(rt, case);
+    print_hex(rt, bytes);
+    print(rt, b"\n");
 }
 
-fn print_number(text: &[u8], n: u64) {
-    print(text);
-    io::print_decimal(STDOUT_FILENO, n);
+fn print_number(rt: &HostRuntime, text: &[u8], n: u64) {
+    print(rt, text);
+    let _ = print!(rt; "{n}");
 }
 
 fn byte(n: usize) -> u8 {
@@ -96,40 +97,40 @@ fn archived(jobs: u8) -> [u8; 65537] {
 }
 
 // A line: the case, and what checking answers.
-fn print_check(case: &[u8], tag_key: &[u8], file: &[u8]) {
+fn print_check(rt: &HostRuntime, case: &[u8], tag_key: &[u8], file: &[u8]) {
     let key = KEY;
     let checked = archive::check(&key, tag_key, file);
-    print(case);
+    print(rt, case);
     match checked {
-        Checked::Jobs(n) => print_number(b"jobs ", n as u64),
-        Checked::Refused(n) => print_number(b"refused ", n as u64),
+        Checked::Jobs(n) => print_number(rt, b"jobs ", n as u64),
+        Checked::Refused(n) => print_number(rt, b"refused ", n as u64),
     }
-    print(b"\n");
+    print(rt, b"\n");
 }
 
-fn short_file() {
+fn short_file(rt: &HostRuntime) {
     let file = headed(1, 0, 19);
-    print_check(b"19 bytes: ", b"", &file[0..19]);
+    print_check(rt, b"19 bytes: ", b"", &file[0..19]);
 }
 
-fn layout_2() {
+fn layout_2(rt: &HostRuntime) {
     let file = headed(2, 0, 20);
-    print_check(b"20 bytes with layout 2: ", b"", &file[0..20]);
+    print_check(rt, b"20 bytes with layout 2: ", b"", &file[0..20]);
 }
 
-fn long_file() {
+fn long_file(rt: &HostRuntime) {
     let file = headed(1, 0, 65537);
-    print_check(b"65537 bytes: ", b"", &file);
+    print_check(rt, b"65537 bytes: ", b"", &file);
 }
 
-fn count_64() {
+fn count_64(rt: &HostRuntime) {
     let file = archived(64);
-    print_check(b"count 64: ", b"", &file[0..1044]);
+    print_check(rt, b"count 64: ", b"", &file[0..1044]);
 }
 
-fn count_65() {
+fn count_65(rt: &HostRuntime) {
     let file = archived(65);
-    print_check(b"count 65: ", b"", &file[0..1060]);
+    print_check(rt, b"count 65: ", b"", &file[0..1060]);
 }
 
 // The archive that docs/FORMAT.md works byte by byte, examples/sample/archive.bin: two jobs, of `dried` and of no bytes.
@@ -147,45 +148,57 @@ fn sample_file() -> [u8; 57] {
 }
 
 // The end of a line: what finding or a search answers.
-fn print_place(found: Found) {
+fn print_place(rt: &HostRuntime, found: Found) {
     match found {
-        Found::At(i) => print_number(b": index ", i as u64),
-        Found::Refused(n) => print_number(b": refused ", n as u64),
+        Found::At(i) => print_number(rt, b": index ", i as u64),
+        Found::Refused(n) => print_number(rt, b": refused ", n as u64),
     }
-    print(b"\n");
+    print(rt, b"\n");
 }
 
-fn print_found(key: &[u8], tag_key: &[u8], file: &[u8], number: &[u8]) {
-    print(b"find ");
-    print(number);
-    print_place(archive::find(key, tag_key, file, number));
+fn print_found(rt: &HostRuntime, key: &[u8], tag_key: &[u8], file: &[u8], number: &[u8]) {
+    print(rt, b"find ");
+    print(rt, number);
+    print_place(rt, archive::find(key, tag_key, file, number));
 }
 
-fn print_body(key: &[u8], tag_key: &[u8], file: &[u8], number: &[u8]) {
-    print(b"body of ");
-    print(number);
-    print(b": '");
-    print_hex(archive::body(key, tag_key, file, number));
-    print(b"'\n");
+fn print_body(rt: &HostRuntime, key: &[u8], tag_key: &[u8], file: &[u8], number: &[u8]) {
+    print(rt, b"body of ");
+    print(rt, number);
+    print(rt, b": '");
+    print_hex(rt, archive::body(key, tag_key, file, number));
+    print(rt, b"'\n");
 }
 
 // The end of a line: what opening answers, and the buffer whole.
-fn print_answer(opened: Opened, buffer: &[u8]) {
+fn print_answer(rt: &HostRuntime, opened: Opened, buffer: &[u8]) {
     match opened {
-        Opened::Bytes(n) => print_number(b" bytes: bytes ", n as u64),
-        Opened::Refused(n) => print_number(b" bytes: refused ", n as u64),
+        Opened::Bytes(n) => print_number(rt, b" bytes: bytes ", n as u64),
+        Opened::Refused(n) => print_number(rt, b" bytes: refused ", n as u64),
     }
-    print_line(b", buffer ", buffer);
+    print_line(rt, b", buffer ", buffer);
 }
 
-fn print_opened(key: &[u8], tag_key: &[u8], file: &[u8], number: &[u8], buffer: &mut [u8]) {
-    print(b"open ");
-    print(number);
-    print_number(b" in ", buffer.len() as u64);
-    print_answer(opening::open(key, tag_key, file, number, buffer), buffer);
+fn print_opened(
+    rt: &HostRuntime,
+    key: &[u8],
+    tag_key: &[u8],
+    file: &[u8],
+    number: &[u8],
+    buffer: &mut [u8],
+) {
+    print(rt, b"open ");
+    print(rt, number);
+    print_number(rt, b" in ", buffer.len() as u64);
+    print_answer(
+        rt,
+        opening::open(key, tag_key, file, number, buffer),
+        buffer,
+    );
 }
 
 fn print_range(
+    rt: &HostRuntime,
     key: &[u8],
     tag_key: &[u8],
     file: &[u8],
@@ -194,12 +207,13 @@ fn print_range(
     count: usize,
     buffer: &mut [u8],
 ) {
-    print(b"open ");
-    print(number);
-    print_number(b" from ", first as u64);
-    print_number(b", count ", count as u64);
-    print_number(b", in ", buffer.len() as u64);
+    print(rt, b"open ");
+    print(rt, number);
+    print_number(rt, b" from ", first as u64);
+    print_number(rt, b", count ", count as u64);
+    print_number(rt, b", in ", buffer.len() as u64);
     print_answer(
+        rt,
         opening::open_range(key, tag_key, file, number, first, count, buffer),
         buffer,
     );
@@ -207,19 +221,20 @@ fn print_range(
 
 // A job that is not there, and the one of five bytes. A buffer keeps what it had where the job is not there, past the plain bytes, and
 // where it is too short.
-fn open_jobs(key: &[u8], tag_key: &[u8], file: &[u8]) {
+fn open_jobs(rt: &HostRuntime, key: &[u8], tag_key: &[u8], file: &[u8]) {
     let mut room = [b'.'; 8];
-    print_opened(key, tag_key, file, b"24000019", &mut room);
-    print_opened(key, tag_key, file, b"24000017", &mut room);
+    print_opened(rt, key, tag_key, file, b"24000019", &mut room);
+    print_opened(rt, key, tag_key, file, b"24000017", &mut room);
     let mut short = [b'.'; 4];
-    print_opened(key, tag_key, file, b"24000017", &mut short);
+    print_opened(rt, key, tag_key, file, b"24000017", &mut short);
 }
 
 // Ranges of the job of five bytes: within it, to its very end, past it, by sums of 2^64 too; and of a job that is not there.
-fn open_ranges(key: &[u8], tag_key: &[u8], file: &[u8]) {
+fn open_ranges(rt: &HostRuntime, key: &[u8], tag_key: &[u8], file: &[u8]) {
     let mut room = [b'.'; 8];
-    print_range(key, tag_key, file, b"24000017", 5, 1, &mut room);
+    print_range(rt, key, tag_key, file, b"24000017", 5, 1, &mut room);
     print_range(
+        rt,
         key,
         tag_key,
         file,
@@ -229,6 +244,7 @@ fn open_ranges(key: &[u8], tag_key: &[u8], file: &[u8]) {
         &mut room,
     );
     print_range(
+        rt,
         key,
         tag_key,
         file,
@@ -237,29 +253,29 @@ fn open_ranges(key: &[u8], tag_key: &[u8], file: &[u8]) {
         18446744073709551615,
         &mut room,
     );
-    print_range(key, tag_key, file, b"24000019", 9, 9, &mut room);
-    print_range(key, tag_key, file, b"24000017", 1, 3, &mut room);
-    print_range(key, tag_key, file, b"24000017", 5, 0, &mut room);
+    print_range(rt, key, tag_key, file, b"24000019", 9, 9, &mut room);
+    print_range(rt, key, tag_key, file, b"24000017", 1, 3, &mut room);
+    print_range(rt, key, tag_key, file, b"24000017", 5, 0, &mut room);
 }
 
 // A buffer that has room for less than the range: it keeps what it had. A range that passes the job's end is told first.
-fn open_ranges_short(key: &[u8], tag_key: &[u8], file: &[u8]) {
+fn open_ranges_short(rt: &HostRuntime, key: &[u8], tag_key: &[u8], file: &[u8]) {
     let mut short = [b'.'; 2];
-    print_range(key, tag_key, file, b"24000017", 1, 3, &mut short);
-    print_range(key, tag_key, file, b"24000017", 1, 5, &mut short);
-    print_range(key, tag_key, file, b"24000017", 3, 2, &mut short);
+    print_range(rt, key, tag_key, file, b"24000017", 1, 3, &mut short);
+    print_range(rt, key, tag_key, file, b"24000017", 1, 5, &mut short);
+    print_range(rt, key, tag_key, file, b"24000017", 3, 2, &mut short);
 }
 
 // Each call on a sample, for jobs that are there, the index of the second not being 0, and for one that is not.
-fn sample_calls(key: &[u8], tag_key: &[u8], file: &[u8]) {
-    print_found(key, tag_key, file, b"24000018");
-    print_found(key, tag_key, file, b"24000019");
-    print_line(b"directory: ", archive::directory(key, tag_key, file));
-    print_body(key, tag_key, file, b"24000017");
-    print_body(key, tag_key, file, b"24000019");
-    open_jobs(key, tag_key, file);
-    open_ranges(key, tag_key, file);
-    open_ranges_short(key, tag_key, file);
+fn sample_calls(rt: &HostRuntime, key: &[u8], tag_key: &[u8], file: &[u8]) {
+    print_found(rt, key, tag_key, file, b"24000018");
+    print_found(rt, key, tag_key, file, b"24000019");
+    print_line(rt, b"directory: ", archive::directory(key, tag_key, file));
+    print_body(rt, key, tag_key, file, b"24000017");
+    print_body(rt, key, tag_key, file, b"24000019");
+    open_jobs(rt, key, tag_key, file);
+    open_ranges(rt, key, tag_key, file);
+    open_ranges_short(rt, key, tag_key, file);
 }
 
 // The archive of layout 2 that docs/FORMAT.md works byte by byte, examples/tagged/archive.bin: the same jobs, and the tag.
@@ -294,17 +310,19 @@ fn tag_bytes() -> [u8; 33] {
 }
 
 // The tagged sample under no tag key, under ones of a wrong length, under another and under its own; and the other sample under a tag key.
-fn tag_keys(key: &[u8], tag_key: &[u8], file: &[u8], untagged: &[u8]) {
-    print_check(b"tagged, no tag key: ", b"", file);
-    print_check(b"tagged, 33 bytes of tag key: ", tag_key, file);
+fn tag_keys(rt: &HostRuntime, key: &[u8], tag_key: &[u8], file: &[u8], untagged: &[u8]) {
+    print_check(rt, b"tagged, no tag key: ", b"", file);
+    print_check(rt, b"tagged, 33 bytes of tag key: ", tag_key, file);
     print_check(
+        rt,
         b"tagged, 31 bytes of tag key: ",
         octets::part(tag_key, 0, 31),
         file,
     );
-    print_check(b"tagged, under the key: ", key, file);
-    print_check(b"tagged: ", octets::part(tag_key, 0, 32), file);
+    print_check(rt, b"tagged, under the key: ", key, file);
+    print_check(rt, b"tagged: ", octets::part(tag_key, 0, 32), file);
     print_check(
+        rt,
         b"layout 1 under a tag key: ",
         octets::part(tag_key, 0, 32),
         untagged,
@@ -320,13 +338,14 @@ fn bit_changed(at: usize) -> [u8; 73] {
 }
 
 // The tagged sample with a bit changed of its tag, of a body, and of the archive number.
-fn tagged_changes(tag_key: &[u8]) {
+fn tagged_changes(rt: &HostRuntime, tag_key: &[u8]) {
     let tag = bit_changed(72);
-    print_check(b"tagged, its last bit changed: ", tag_key, &tag);
+    print_check(rt, b"tagged, its last bit changed: ", tag_key, &tag);
     let body = bit_changed(56);
-    print_check(b"tagged, a bit of the body changed: ", tag_key, &body);
+    print_check(rt, b"tagged, a bit of the body changed: ", tag_key, &body);
     let number = bit_changed(7);
     print_check(
+        rt,
         b"tagged, a bit of the archive number changed: ",
         tag_key,
         &number,
@@ -334,17 +353,18 @@ fn tagged_changes(tag_key: &[u8]) {
 }
 
 // The calls on the tagged sample.
-fn tagged_sample(key: &[u8], untagged: &[u8]) {
+fn tagged_sample(rt: &HostRuntime, key: &[u8], untagged: &[u8]) {
     let file = tagged_file();
     let bytes = tag_bytes();
-    tag_keys(key, &bytes, &file, untagged);
+    tag_keys(rt, key, &bytes, &file, untagged);
     let tag_key = octets::part(&bytes, 0, 32);
-    tagged_changes(tag_key);
-    sample_calls(key, tag_key, &file);
+    tagged_changes(rt, tag_key);
+    sample_calls(rt, key, tag_key, &file);
 }
 
 // A line: the case, the buffer's length, what sealing answers, and the buffer whole.
 fn print_sealed(
+    rt: &HostRuntime,
     case: &[u8],
     key_file: &[u8],
     tag_key: &[u8],
@@ -352,14 +372,14 @@ fn print_sealed(
     plain: &[u8],
     buffer: &mut [u8],
 ) {
-    print(case);
-    print_number(b" in ", buffer.len() as u64);
+    print(rt, case);
+    print_number(rt, b" in ", buffer.len() as u64);
     let sealed = sealing::seal(key_file, tag_key, sheet, plain, buffer);
     match sealed {
-        Sealed::Bytes(n) => print_number(b" bytes: bytes ", n as u64),
-        Sealed::Refused(n) => print_number(b" bytes: refused ", n as u64),
+        Sealed::Bytes(n) => print_number(rt, b" bytes: bytes ", n as u64),
+        Sealed::Refused(n) => print_number(rt, b" bytes: refused ", n as u64),
     }
-    print_line(b", buffer ", buffer);
+    print_line(rt, b", buffer ", buffer);
 }
 
 // The sheet of both samples.
@@ -379,12 +399,13 @@ fn sheet_with(at: usize, bytes: &[u8]) -> [u8; 29] {
 }
 
 // Lines of one number, 65 of them and 64.
-fn seal_equal_lines(key: &[u8], buffer: &mut [u8]) {
+fn seal_equal_lines(rt: &HostRuntime, key: &[u8], buffer: &mut [u8]) {
     let mut sheet = [b'0'; 785];
     let front = sample_sheet();
     octets::put(&mut sheet, 0, octets::part(&front, 0, 5));
-    print_sealed(b"seal, 65 lines", key, b"", &sheet, b"dried", buffer);
+    print_sealed(rt, b"seal, 65 lines", key, b"", &sheet, b"dried", buffer);
     print_sealed(
+        rt,
         b"seal, 64 lines of one number",
         key,
         b"",
@@ -395,9 +416,10 @@ fn seal_equal_lines(key: &[u8], buffer: &mut [u8]) {
 }
 
 // A number with a byte that is no digit, and one that is above the next.
-fn seal_lines(key: &[u8], buffer: &mut [u8]) {
+fn seal_lines(rt: &HostRuntime, key: &[u8], buffer: &mut [u8]) {
     let number = sheet_with(12, b"/");
     print_sealed(
+        rt,
         b"seal, number 2400001/",
         key,
         b"",
@@ -407,6 +429,7 @@ fn seal_lines(key: &[u8], buffer: &mut [u8]) {
     );
     let order = sheet_with(12, b"9");
     print_sealed(
+        rt,
         b"seal, 24000019 before 24000018",
         key,
         b"",
@@ -417,9 +440,10 @@ fn seal_lines(key: &[u8], buffer: &mut [u8]) {
 }
 
 // Sheets of a wrong length, with a wrong key length, and for an archive that is a byte too long.
-fn seal_sheets(key: &[u8], buffer: &mut [u8]) {
+fn seal_sheets(rt: &HostRuntime, key: &[u8], buffer: &mut [u8]) {
     let sheet = sample_sheet();
     print_sealed(
+        rt,
         b"seal, 28 bytes of sheet",
         key,
         b"",
@@ -428,9 +452,18 @@ fn seal_sheets(key: &[u8], buffer: &mut [u8]) {
         buffer,
     );
     let length = sheet_with(0, b"\x11");
-    print_sealed(b"seal, key length 17", key, b"", &length, b"dried", buffer);
+    print_sealed(
+        rt,
+        b"seal, key length 17",
+        key,
+        b"",
+        &length,
+        b"dried",
+        buffer,
+    );
     let long = sheet_with(25, b"\x00\x00\xff\xc8");
     print_sealed(
+        rt,
         b"seal, 65537 bytes of archive",
         key,
         b"",
@@ -441,9 +474,10 @@ fn seal_sheets(key: &[u8], buffer: &mut [u8]) {
 }
 
 // Keys that are refused: too few bytes for the sheet's length, and a tag key of a wrong length.
-fn seal_keys(key: &[u8], tag_key: &[u8], buffer: &mut [u8]) {
+fn seal_keys(rt: &HostRuntime, key: &[u8], tag_key: &[u8], buffer: &mut [u8]) {
     let sheet = sample_sheet();
     print_sealed(
+        rt,
         b"seal, 15 bytes of key file",
         octets::part(key, 0, 15),
         b"",
@@ -452,6 +486,7 @@ fn seal_keys(key: &[u8], tag_key: &[u8], buffer: &mut [u8]) {
         buffer,
     );
     print_sealed(
+        rt,
         b"seal, 33 bytes of tag key",
         key,
         tag_key,
@@ -462,20 +497,45 @@ fn seal_keys(key: &[u8], tag_key: &[u8], buffer: &mut [u8]) {
 }
 
 // Plain bytes too few and too many.
-fn seal_plains(key: &[u8], buffer: &mut [u8]) {
+fn seal_plains(rt: &HostRuntime, key: &[u8], buffer: &mut [u8]) {
     let sheet = sample_sheet();
-    print_sealed(b"seal, 4 plain bytes", key, b"", &sheet, b"drie", buffer);
-    print_sealed(b"seal, 6 plain bytes", key, b"", &sheet, b"dried.", buffer);
+    print_sealed(
+        rt,
+        b"seal, 4 plain bytes",
+        key,
+        b"",
+        &sheet,
+        b"drie",
+        buffer,
+    );
+    print_sealed(
+        rt,
+        b"seal, 6 plain bytes",
+        key,
+        b"",
+        &sheet,
+        b"dried.",
+        buffer,
+    );
 }
 
 // The samples, each in a buffer that is a byte short and keeps what it had, and in one that has room.
-fn seal_samples(key: &[u8], tag_key: &[u8], buffer: &mut [u8]) {
+fn seal_samples(rt: &HostRuntime, key: &[u8], tag_key: &[u8], buffer: &mut [u8]) {
     let sheet = sample_sheet();
     let mut short = [b'.'; 56];
-    print_sealed(b"seal, the sample", key, b"", &sheet, b"dried", &mut short);
-    print_sealed(b"seal, the sample", key, b"", &sheet, b"dried", buffer);
+    print_sealed(
+        rt,
+        b"seal, the sample",
+        key,
+        b"",
+        &sheet,
+        b"dried",
+        &mut short,
+    );
+    print_sealed(rt, b"seal, the sample", key, b"", &sheet, b"dried", buffer);
     let mut tagged_short = [b'.'; 72];
     print_sealed(
+        rt,
         b"seal, the tagged sample",
         key,
         tag_key,
@@ -485,6 +545,7 @@ fn seal_samples(key: &[u8], tag_key: &[u8], buffer: &mut [u8]) {
     );
     let mut tagged = [b'.'; 74];
     print_sealed(
+        rt,
         b"seal, the tagged sample",
         key,
         tag_key,
@@ -495,27 +556,37 @@ fn seal_samples(key: &[u8], tag_key: &[u8], buffer: &mut [u8]) {
 }
 
 // The sample's jobs with this key length on their sheet, into a buffer of its own.
-fn seal_key_length(case: &[u8], length: &[u8], key_file: &[u8]) {
+fn seal_key_length(rt: &HostRuntime, case: &[u8], length: &[u8], key_file: &[u8]) {
     let sheet = sheet_with(0, length);
     let mut buffer = [b'.'; 60];
-    print_sealed(case, key_file, b"", &sheet, b"dried", &mut buffer);
+    print_sealed(rt, case, key_file, b"", &sheet, b"dried", &mut buffer);
 }
 
 // Key files that are too short for key length 0, which means 32.
-fn seal_short_key_files(key_file: &[u8]) {
+fn seal_short_key_files(rt: &HostRuntime, key_file: &[u8]) {
     let of_16 = octets::part(key_file, 0, 16);
     let of_24 = octets::part(key_file, 0, 24);
     let of_31 = octets::part(key_file, 0, 31);
-    seal_key_length(b"seal, key length 0, key file of 16", b"\x00", of_16);
-    seal_key_length(b"seal, key length 0, key file of 24", b"\x00", of_24);
-    seal_key_length(b"seal, key length 0, key file of 31", b"\x00", of_31);
+    seal_key_length(rt, b"seal, key length 0, key file of 16", b"\x00", of_16);
+    seal_key_length(rt, b"seal, key length 0, key file of 24", b"\x00", of_24);
+    seal_key_length(rt, b"seal, key length 0, key file of 31", b"\x00", of_31);
 }
 
 // A key file with a byte more than any key has: under key length 0, under 32, which gives the same, and under 16, which gives the sample.
-fn seal_long_key_file(key_file: &[u8]) {
-    seal_key_length(b"seal, key length 0, key file of 33", b"\x00", key_file);
-    seal_key_length(b"seal, key length 32, key file of 33", b"\x20", key_file);
-    seal_key_length(b"seal, key length 16, key file of 33", b"\x10", key_file);
+fn seal_long_key_file(rt: &HostRuntime, key_file: &[u8]) {
+    seal_key_length(rt, b"seal, key length 0, key file of 33", b"\x00", key_file);
+    seal_key_length(
+        rt,
+        b"seal, key length 32, key file of 33",
+        b"\x20",
+        key_file,
+    );
+    seal_key_length(
+        rt,
+        b"seal, key length 16, key file of 33",
+        b"\x10",
+        key_file,
+    );
 }
 
 // The 32 bytes of RFC 5794's longest key, which begins with that of the sample, and a byte more.
@@ -528,96 +599,97 @@ fn long_key_file(key: &[u8]) -> [u8; 33] {
 }
 
 // Key lengths on the sheet, and key files of other lengths.
-fn seal_key_lengths(key: &[u8]) {
+fn seal_key_lengths(rt: &HostRuntime, key: &[u8]) {
     let file = long_key_file(key);
-    seal_short_key_files(&file);
-    seal_long_key_file(&file);
+    seal_short_key_files(rt, &file);
+    seal_long_key_file(rt, &file);
 }
 
 // The calls of `sealing`. Those that are refused whatever the buffer have one in turn, with room for the sample, which is sealed into it
 // then; those about key lengths have each its own.
-fn sample_seals(key: &[u8]) {
+fn sample_seals(rt: &HostRuntime, key: &[u8]) {
     let bytes = tag_bytes();
     let mut buffer = [b'.'; 60];
-    seal_sheets(key, &mut buffer);
-    seal_keys(key, &bytes, &mut buffer);
-    seal_equal_lines(key, &mut buffer);
-    seal_lines(key, &mut buffer);
-    seal_plains(key, &mut buffer);
-    seal_samples(key, octets::part(&bytes, 0, 32), &mut buffer);
-    seal_key_lengths(key);
+    seal_sheets(rt, key, &mut buffer);
+    seal_keys(rt, key, &bytes, &mut buffer);
+    seal_equal_lines(rt, key, &mut buffer);
+    seal_lines(rt, key, &mut buffer);
+    seal_plains(rt, key, &mut buffer);
+    seal_samples(rt, key, octets::part(&bytes, 0, 32), &mut buffer);
+    seal_key_lengths(rt, key);
 }
 
 // A line: the number, the bare directory, and what a search of it answers. Of an entry a search looks at the number only.
-fn print_search(number: &[u8], directory: &[u8]) {
-    print(b"search '");
-    print(number);
-    print(b"' in '");
-    print(directory);
-    print(b"'");
-    print_place(directory::search(directory, number));
+fn print_search(rt: &HostRuntime, number: &[u8], directory: &[u8]) {
+    print(rt, b"search '");
+    print(rt, number);
+    print(rt, b"' in '");
+    print(rt, directory);
+    print(rt, b"'");
+    print_place(rt, directory::search(directory, number));
 }
 
 // Numbers that are not there: below, between and above the entries.
-fn search_absent() {
+fn search_absent(rt: &HostRuntime) {
     let directory = b"24000017........24000020........";
-    print_search(b"24000016", directory);
-    print_search(b"24000018", directory);
-    print_search(b"24000021", directory);
+    print_search(rt, b"24000016", directory);
+    print_search(rt, b"24000018", directory);
+    print_search(rt, b"24000021", directory);
 }
 
 // A directory that does not ascend: what stands after the first entry above the number does not show.
-fn search_passed() {
+fn search_passed(rt: &HostRuntime) {
     let directory = b"24000017........24000020........24000018........";
-    print_search(b"24000017", directory);
-    print_search(b"24000018", directory);
-    print_search(b"24000020", directory);
+    print_search(rt, b"24000017", directory);
+    print_search(rt, b"24000018", directory);
+    print_search(rt, b"24000020", directory);
 }
 
 // An entry above the number before any other, entries below it, and the number twice.
-fn search_unordered() {
+fn search_unordered(rt: &HostRuntime) {
     let directory = b"24000018........24000017........24000018........";
-    print_search(b"24000017", directory);
-    print_search(b"24000018", directory);
+    print_search(rt, b"24000017", directory);
+    print_search(rt, b"24000018", directory);
     print_search(
+        rt,
         b"24000020",
         b"24000018........24000017........24000020........",
     );
 }
 
 // A last part of an entry, no entry, and numbers of other lengths.
-fn search_lengths() {
-    print_search(b"24000018", b"24000017........24000018.......");
-    print_search(b"24000017", b"");
-    print_search(b"", b"");
-    print_search(b"", b"00000000........");
-    print_search(b"2400001", b"24000010........");
-    print_search(b"240000170", b"24000017........");
+fn search_lengths(rt: &HostRuntime) {
+    print_search(rt, b"24000018", b"24000017........24000018.......");
+    print_search(rt, b"24000017", b"");
+    print_search(rt, b"", b"");
+    print_search(rt, b"", b"00000000........");
+    print_search(rt, b"2400001", b"24000010........");
+    print_search(rt, b"240000170", b"24000017........");
 }
 
 // Bytes that are no digits: one that counts as 0, one that counts as 11, and one in the number.
-fn search_other_bytes() {
-    print_search(b"24000010", b"2400001/........24000010........");
-    print_search(b"24000020", b"2400001;........24000020........");
-    print_search(b"2400001/", b"24000010........2400001/........");
+fn search_other_bytes(rt: &HostRuntime) {
+    print_search(rt, b"24000010", b"2400001/........24000010........");
+    print_search(rt, b"24000020", b"2400001;........24000020........");
+    print_search(rt, b"2400001/", b"24000010........2400001/........");
 }
 
 // Jobs of both spans of years, the old before the new; and the new before the old, as no archive has them.
-fn search_years() {
+fn search_years(rt: &HostRuntime) {
     let directory = b"97000004........05000001........";
-    print_search(b"97000004", directory);
-    print_search(b"05000001", directory);
-    print_search(b"70000000", directory);
-    print_search(b"69999999", directory);
+    print_search(rt, b"97000004", directory);
+    print_search(rt, b"05000001", directory);
+    print_search(rt, b"70000000", directory);
+    print_search(rt, b"69999999", directory);
     let plain = b"05000001........97000004........";
-    print_search(b"97000004", plain);
-    print_search(b"05000001", plain);
+    print_search(rt, b"97000004", plain);
+    print_search(rt, b"05000001", plain);
 }
 
 // Bytes that are no digits in the year: one that makes it 104, one that makes it 9.
-fn search_other_years() {
-    print_search(b"24000017", b":4000000........24000017........");
-    print_search(b"24000017", b"/9000000........24000017........");
+fn search_other_years(rt: &HostRuntime) {
+    print_search(rt, b"24000017", b":4000000........24000017........");
+    print_search(rt, b"24000017", b"/9000000........24000017........");
 }
 
 // The plain block of RFC 5794, appendix A.
@@ -629,7 +701,7 @@ fn rfc_block() -> [u8; 16] {
 }
 
 // A line: the engine, and what it makes of the block under the schedule of the key.
-fn print_run(case: &[u8], engine: Engine) {
+fn print_run(rt: &HostRuntime, case: &[u8], engine: Engine) {
     let key = KEY;
     let prepared = preparation::prepare(&key);
     let outcome = prepared.outcome;
@@ -638,82 +710,107 @@ fn print_run(case: &[u8], engine: Engine) {
     };
     let mut block = rfc_block();
     roundtrip::run_by(engine, prepared.schedule, &mut block);
-    print_line(case, &block);
+    print_line(rt, case, &block);
 }
 
 // A line: the case, the outcome's number and the tag beside it.
-fn print_tagged(case: &[u8], tagged: Tagged) {
+fn print_tagged(rt: &HostRuntime, case: &[u8], tagged: Tagged) {
     let outcome = tagged.outcome;
     let tag = tagged.tag;
-    print_number(case, expansion::number_of(outcome) as u64);
-    print_line(b", tag ", &tag);
+    print_number(rt, case, expansion::number_of(outcome) as u64);
+    print_line(rt, b", tag ", &tag);
 }
 
 // Tags of the front of a file: of no bytes, of less than a block, a block, two blocks, and three and less than a fourth.
-fn tag_lengths(key: &[u8], file: &[u8]) {
-    print_tagged(b"cmac, 0 bytes: ", cmac::tag(key, octets::part(file, 0, 0)));
+fn tag_lengths(rt: &HostRuntime, key: &[u8], file: &[u8]) {
     print_tagged(
+        rt,
+        b"cmac, 0 bytes: ",
+        cmac::tag(key, octets::part(file, 0, 0)),
+    );
+    print_tagged(
+        rt,
         b"cmac, 15 bytes: ",
         cmac::tag(key, octets::part(file, 0, 15)),
     );
     print_tagged(
+        rt,
         b"cmac, 16 bytes: ",
         cmac::tag(key, octets::part(file, 0, 16)),
     );
     print_tagged(
+        rt,
         b"cmac, 32 bytes: ",
         cmac::tag(key, octets::part(file, 0, 32)),
     );
-    print_tagged(b"cmac, 57 bytes: ", cmac::tag(key, file));
+    print_tagged(rt, b"cmac, 57 bytes: ", cmac::tag(key, file));
 }
 
 // The same under a schedule, under one of 13 rounds, and under a key of 15 bytes.
-fn tag_refusals(key: &[u8], good: Schedule, bad: Schedule, file: &[u8]) {
-    print_tagged(b"cmac under a schedule: ", cmac::tag_under(good, file));
-    print_tagged(b"cmac under 13 rounds: ", cmac::tag_under(bad, file));
+fn tag_refusals(rt: &HostRuntime, key: &[u8], good: Schedule, bad: Schedule, file: &[u8]) {
+    print_tagged(rt, b"cmac under a schedule: ", cmac::tag_under(good, file));
+    print_tagged(rt, b"cmac under 13 rounds: ", cmac::tag_under(bad, file));
     print_tagged(
+        rt,
         b"cmac under 15 bytes of key: ",
         cmac::tag(octets::part(key, 0, 15), file),
     );
 }
 
 // A line: the case, and the number of a comparison's verdict.
-fn print_verdict(case: &[u8], verdict: Verdict) {
-    print_number(case, cmac::number_of(verdict) as u64);
-    print(b"\n");
+fn print_verdict(rt: &HostRuntime, case: &[u8], verdict: Verdict) {
+    print_number(rt, case, cmac::number_of(verdict) as u64);
+    print(rt, b"\n");
 }
 
 // Comparisons under a key: with the tag, with another, with a byte too few, and so with a bad key as well.
-fn verify_by_key(key: &[u8], file: &[u8], tag: &[u8], other: &[u8]) {
+fn verify_by_key(rt: &HostRuntime, key: &[u8], file: &[u8], tag: &[u8], other: &[u8]) {
     let short = octets::part(tag, 0, 15);
-    print_verdict(b"verify, the tag: ", cmac::verify(key, file, tag));
+    print_verdict(rt, b"verify, the tag: ", cmac::verify(key, file, tag));
     print_verdict(
+        rt,
         b"verify, its last bit changed: ",
         cmac::verify(key, file, other),
     );
-    print_verdict(b"verify, 15 bytes of it: ", cmac::verify(key, file, short));
     print_verdict(
+        rt,
+        b"verify, 15 bytes of it: ",
+        cmac::verify(key, file, short),
+    );
+    print_verdict(
+        rt,
         b"verify, 15 bytes of key and tag: ",
         cmac::verify(octets::part(key, 0, 15), file, short),
     );
 }
 
 // The same under schedules, of which one has 13 rounds.
-fn verify_by_schedule(good: Schedule, bad: Schedule, file: &[u8], tag: &[u8], other: &[u8]) {
+fn verify_by_schedule(
+    rt: &HostRuntime,
+    good: Schedule,
+    bad: Schedule,
+    file: &[u8],
+    tag: &[u8],
+    other: &[u8],
+) {
     let short = octets::part(tag, 0, 15);
     print_verdict(
+        rt,
         b"verify under a schedule, the tag: ",
         cmac::verify_under(good, file, tag),
     );
     print_verdict(
+        rt,
         b"verify under a schedule, its last bit changed: ",
         cmac::verify_under(good, file, other),
     );
     print_verdict(
+        rt,
         b"verify under a schedule, 15 bytes of it: ",
         cmac::verify_under(good, file, short),
     );
     print_verdict(
+        rt,
         b"verify under 13 rounds, 15 bytes of it: ",
         cmac::verify_under(bad, file, short),
     );
@@ -727,7 +824,7 @@ fn changed(tag: [u8; 16]) -> [u8; 16] {
 }
 
 // The calls of `cmac`, by the key and by its schedule, and by that with another round count.
-fn sample_tags(key: &[u8], file: &[u8]) {
+fn sample_tags(rt: &HostRuntime, key: &[u8], file: &[u8]) {
     let prepared = preparation::prepare(key);
     let outcome = prepared.outcome;
     let Outcome::Ready = outcome else {
@@ -738,31 +835,31 @@ fn sample_tags(key: &[u8], file: &[u8]) {
     let bad = Schedule { rounds: 13, keys };
     let tag = cmac::tag(key, file).tag;
     let other = changed(tag);
-    tag_lengths(key, file);
-    tag_refusals(key, good, bad, file);
-    verify_by_key(key, file, &tag, &other);
-    verify_by_schedule(good, bad, file, &tag, &other);
+    tag_lengths(rt, key, file);
+    tag_refusals(rt, key, good, bad, file);
+    verify_by_key(rt, key, file, &tag, &other);
+    verify_by_schedule(rt, good, bad, file, &tag, &other);
 }
 
-fn main() {
-    short_file();
-    layout_2();
-    long_file();
-    count_64();
-    count_65();
+fn main(rt: HostRuntime) {
+    short_file(&rt);
+    layout_2(&rt);
+    long_file(&rt);
+    count_64(&rt);
+    count_65(&rt);
     let key = KEY;
     let file = sample_file();
-    sample_calls(&key, b"", &file);
-    tagged_sample(&key, &file);
-    sample_seals(&key);
-    search_absent();
-    search_passed();
-    search_unordered();
-    search_lengths();
-    search_other_bytes();
-    search_years();
-    search_other_years();
-    print_run(b"plain, RFC 5794 A.1: ", Engine::Plain);
-    print_run(b"tables, RFC 5794 A.1: ", Engine::Tables);
-    sample_tags(&key, &file);
+    sample_calls(&rt, &key, b"", &file);
+    tagged_sample(&rt, &key, &file);
+    sample_seals(&rt, &key);
+    search_absent(&rt);
+    search_passed(&rt);
+    search_unordered(&rt);
+    search_lengths(&rt);
+    search_other_bytes(&rt);
+    search_years(&rt);
+    search_other_years(&rt);
+    print_run(&rt, b"plain, RFC 5794 A.1: ", Engine::Plain);
+    print_run(&rt, b"tables, RFC 5794 A.1: ", Engine::Tables);
+    sample_tags(&rt, &key, &file);
 }

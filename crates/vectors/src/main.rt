@@ -2,13 +2,13 @@
 // with the words, round keys and decryption round keys of its three keys and the block after each round, and the ARIA test vectors of 2004.
 // The stored output is of other origin; tests/vectors/make_expected.py makes it, and says what a line is and where its bytes come from.
 #![tactic(auto)]
+
 ghost use Rattle.std.specs.Prelude.{◌≡◌, ◌%◌, ◌≤◌};
 ghost use Rattle.boxes.specs.Boxes.{box_by};
 ghost use Rattle.circuit.specs.Circuit.{round_after, rounds, circuit};
 
 use circuit::Schedule;
 use expansion::Outcome;
-use libc::STDOUT_FILENO;
 
 // The key of RFC 5794, A.3; those of A.1 and A.2 are its first 16 and 24 bytes.
 const RFC_KEY: [u8; 32] = [
@@ -27,73 +27,74 @@ const KEY_2004: [u8; 32] = [
     0x00, 0x11, 0x22, 0x33, 0x44, 0x55, 0x66, 0x77, 0x88, 0x99, 0xaa, 0xbb, 0xcc, 0xdd, 0xee, 0xff,
 ];
 
-fn print(text: &[u8]) {
-    io::write_all(STDOUT_FILENO, text);
+fn print(rt: &HostRuntime, text: &[u8]) {
+    let _ = rt.write_all(text);
 }
 
-fn print_hex(bytes: &[u8]) {
+fn print_hex(rt: &HostRuntime, bytes: &[u8]) {
     let mut i: usize = 0;
     while i < bytes.len() {
-        io::print_hex(STDOUT_FILENO, octets::byte_at(bytes, i) as u64, 2);
+        let byte = octets::byte_at(bytes, i);
+        let _ = print!(rt; "{byte:02x}");
         i += 1;
     }
 }
 
 // A line: the vector's name, the case, the bytes.
-fn print_line(name: &[u8], case: &[u8], bytes: &[u8]) {
-    print(name);
-    print(case);
-    print_hex(bytes);
-    print(b"\n");
+fn print_line(rt: &HostRuntime, name: &[u8], case: &[u8], bytes: &[u8]) {
+    print(rt, name);
+    print(rt, case);
+    print_hex(rt, bytes);
+    print(rt, b"\n");
 }
 
 // Forward, and then back. The second run is on the published ciphertext, where the line before has it.
-fn plain_lines(name: &[u8], key: &[u8], run: &mut [u8]) {
+fn plain_lines(rt: &HostRuntime, name: &[u8], key: &[u8], run: &mut [u8]) {
     aria::aria_run_plain(key, 0, run);
-    print_line(name, b" plain forward ", run);
+    print_line(rt, name, b" plain forward ", run);
     aria::aria_run_plain(key, 1, run);
-    print_line(name, b" plain back ", run);
+    print_line(rt, name, b" plain back ", run);
 }
 
 // The same by the word-table engine.
-fn table_lines(name: &[u8], key: &[u8], run: &mut [u8]) {
+fn table_lines(rt: &HostRuntime, name: &[u8], key: &[u8], run: &mut [u8]) {
     aria::aria_run_tables(key, 0, run);
-    print_line(name, b" tables forward ", run);
+    print_line(rt, name, b" tables forward ", run);
     aria::aria_run_tables(key, 1, run);
-    print_line(name, b" tables back ", run);
+    print_line(rt, name, b" tables back ", run);
 }
 
 // The line of a block that has a number.
-fn print_block(name: &[u8], case: &[u8], i: usize, block: [u8; 16]) {
-    print(name);
-    print(case);
-    io::print_decimal(STDOUT_FILENO, i as u64);
-    print(b" ");
-    print_hex(&block);
-    print(b"\n");
+fn print_block(rt: &HostRuntime, name: &[u8], case: &[u8], i: usize, block: [u8; 16]) {
+    print(rt, name);
+    print(rt, case);
+    let _ = print!(rt; "{i}");
+    print(rt, b" ");
+    print_hex(rt, &block);
+    print(rt, b"\n");
 }
 
-fn word_lines(name: &[u8], key: &[u8]) {
+fn word_lines(rt: &HostRuntime, name: &[u8], key: &[u8]) {
     let w = preparation::words(key);
-    print_block(name, b" word ", 0, w[0]);
-    print_block(name, b" word ", 1, w[1]);
-    print_block(name, b" word ", 2, w[2]);
-    print_block(name, b" word ", 3, w[3]);
+    print_block(rt, name, b" word ", 0, w[0]);
+    print_block(rt, name, b" word ", 1, w[1]);
+    print_block(rt, name, b" word ", 2, w[2]);
+    print_block(rt, name, b" word ", 3, w[3]);
 }
 
 // The first n keys of a schedule, counted from 1.
-fn print_keys(name: &[u8], case: &[u8], s: Schedule, n: usize) {
+fn print_keys(rt: &HostRuntime, name: &[u8], case: &[u8], s: Schedule, n: usize) {
     let keys = s.keys;
     let mut i: usize = 0;
     while i < n {
         let key = circuit::round_key(&keys, i);
         i += 1;
-        print_block(name, case, i, key);
+        print_block(rt, name, case, i, key);
     }
 }
 
-fn print_round(name: &[u8], i: usize, block: [u8; 16]) {
-    print_block(name, b" round ", i, block);
+fn print_round(rt: &HostRuntime, name: &[u8], i: usize, block: [u8; 16]) {
+    print_block(rt, name, b" round ", i, block);
 }
 
 // The round that follows i rounds: odd after an even number.
@@ -136,48 +137,48 @@ fn after_last(t: &[[u8; 256]; 4], keys: &[u8; 272], n: usize, block: [u8; 16]) -
 }
 
 // The RFC's block after each round, counted from 1.
-fn round_lines(name: &[u8], s: Schedule) {
+fn round_lines(rt: &HostRuntime, name: &[u8], s: Schedule) {
     let t = sbox::tables();
     let keys = s.keys;
     let n = s.rounds;
     let block = RFC_BLOCK;
     let mut i: usize = 1;
     while i < n {
-        print_round(name, i, after_rounds(&t, &keys, i, block));
+        print_round(rt, name, i, after_rounds(&t, &keys, i, block));
         i += 1;
     }
-    print_round(name, i, after_last(&t, &keys, i, block));
+    print_round(rt, name, i, after_last(&t, &keys, i, block));
 }
 
 // The n round keys of a key, its decryption round keys, and the rounds.
-fn key_lines(name: &[u8], key: &[u8], n: usize) {
+fn key_lines(rt: &HostRuntime, name: &[u8], key: &[u8], n: usize) {
     let prepared = preparation::prepare(key);
     let outcome = prepared.outcome;
     let Outcome::Ready = outcome else {
         return;
     };
     let s = prepared.schedule;
-    print_keys(name, b" round-key ", s, n);
+    print_keys(rt, name, b" round-key ", s, n);
     let reversed = expansion::decryption_schedule(s);
     let t = reversed.schedule;
-    print_keys(name, b" decryption-key ", t, n);
-    round_lines(name, s);
+    print_keys(rt, name, b" decryption-key ", t, n);
+    round_lines(rt, name, s);
 }
 
 // A key of RFC 5794, appendix A, which has n round keys.
-fn rfc_lines(name: &[u8], key: &[u8], n: usize) {
+fn rfc_lines(rt: &HostRuntime, name: &[u8], key: &[u8], n: usize) {
     let mut block = RFC_BLOCK;
-    plain_lines(name, key, &mut block);
-    table_lines(name, key, &mut block);
-    word_lines(name, key);
-    key_lines(name, key, n);
+    plain_lines(rt, name, key, &mut block);
+    table_lines(rt, name, key, &mut block);
+    word_lines(rt, name, key);
+    key_lines(rt, name, key, n);
 }
 
-fn rfc_keys() {
+fn rfc_keys(rt: &HostRuntime) {
     let key = RFC_KEY;
-    rfc_lines(b"aria-128", &key[..16], 13);
-    rfc_lines(b"aria-192", &key[..24], 15);
-    rfc_lines(b"aria-256", &key, 17);
+    rfc_lines(rt, b"aria-128", &key[..16], 13);
+    rfc_lines(rt, b"aria-192", &key[..24], 15);
+    rfc_lines(rt, b"aria-256", &key, 17);
 }
 
 // Byte j of the plain blocks of 2004: words of eight bytes, 11111111aaaaaaaa, 11111111bbbbbbbb, .., 22222222aaaaaaaa, ..
@@ -199,20 +200,20 @@ fn blocks_2004() -> [u8; 160] {
     out
 }
 
-fn lines_2004(name: &[u8], key: &[u8]) {
+fn lines_2004(rt: &HostRuntime, name: &[u8], key: &[u8]) {
     let mut run = blocks_2004();
-    plain_lines(name, key, &mut run);
-    table_lines(name, key, &mut run);
+    plain_lines(rt, name, key, &mut run);
+    table_lines(rt, name, key, &mut run);
 }
 
-fn keys_2004() {
+fn keys_2004(rt: &HostRuntime) {
     let key = KEY_2004;
-    lines_2004(b"aria-2004-128", &key[..16]);
-    lines_2004(b"aria-2004-192", &key[..24]);
-    lines_2004(b"aria-2004-256", &key);
+    lines_2004(rt, b"aria-2004-128", &key[..16]);
+    lines_2004(rt, b"aria-2004-192", &key[..24]);
+    lines_2004(rt, b"aria-2004-256", &key);
 }
 
-fn main() {
-    rfc_keys();
-    keys_2004();
+fn main(rt: HostRuntime) {
+    rfc_keys(&rt);
+    keys_2004(&rt);
 }
