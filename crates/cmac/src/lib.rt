@@ -1,6 +1,7 @@
 // CMAC (SP 800-38B) with ARIA: the tag of a run of any length, and whether lent bytes are that tag, under a key and under a schedule. Here
 // the message is laid out in blocks; the word-table engine encrypts them.
 #![tactic(auto)]
+
 ghost use Rattle.std.specs.Prelude.{◌≡◌, true, [], ◌∷◌, ◌++◌, ◌-◌, ◌/◌, ◌≤◌, length};
 ghost use Rattle.refusals.specs.Shared.{good_rounds, key_cases, rounds_cases};
 ghost use Rattle.blocks.specs.Blocks.{block_of};
@@ -17,7 +18,8 @@ pub struct Tagged {
     pub tag: [u8; 16],
 }
 
-// A comparison's answer, the standard's VALID and INVALID (02's yes and no), or a refusal. The papers' numbers are given by `verdict_number`
+// A comparison's answer, the standard's VALID and INVALID (02's yes and no), or a refusal. The papers' numbers are given by
+// `verdict_number`
 // of specs/.
 #[derive(Drop)]
 pub enum Verdict {
