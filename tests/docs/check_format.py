@@ -47,7 +47,7 @@ WORKED_LEFT = "Both archives without job 24000018, byte by byte"
 WORDS = {"a", "be", "add", "added", "bad"}
 # Words of a paper that the reader does not have.
 FOREIGN = [r"\b[Pp]lates?\b", r"\b[Cc]ontents\b", r"\b[Dd]ocument \d+", r"\b0[12]\b", r"\b[Dd]emand \d"]
-ROOTS = ["scheduleOf", "encrypted", "counterBlock", "keystream", "addStream", "macOf"]
+ROOTS = ["schedule_of", "encrypted", "counter_block", "keystream", "add_stream", "mac_of"]
 # Sentences on the tag whose truth is tried below.
 TAGGED_SAYS = [
     "The tag shows a change of any byte of the file, its own included.",
@@ -1519,26 +1519,26 @@ def faults_of_computing(page):
         if computed(name.lower()) != tuple(table):
             yield "%s of the definitions is not the page's" % name
     for cell, out in page.table("key", "E(`%s`)" % PLAIN.hex(" ")):
-        schedule = computed("scheduleOf", tuple(key_of(cell)))
+        schedule = computed("schedule_of", tuple(key_of(cell)))
         given = bytes(computed("encrypted", schedule, tuple(PLAIN)))
         if given != octets(out):
             yield "%s: the definitions give %s" % (cell, given.hex(" "))
     file = tuple(read("examples/sample/archive.bin", "rb"))
-    schedule = computed("scheduleOf", tuple(read("examples/sample/key.bin", "rb")))
+    schedule = computed("schedule_of", tuple(read("examples/sample/key.bin", "rb")))
     stream = computed("keystream", schedule, file[4:8] + file[20:28])
     rows = dict(page.table("job 24000017", "bytes"))
     for at in (0, 15, 16, 31):
         if definitions.deep(lambda: stream(at)) != octets(rows["E(counter block %d)" % (at // 16)])[at % 16]:
             yield "the definitions give another byte %d of the keystream" % at
-    if bytes(computed("addStream", stream, 0, file[52:57])) != b"dried":
+    if bytes(computed("add_stream", stream, 0, file[52:57])) != b"dried":
         yield "the definitions do not open the sample"
-    if bytes(computed("addStream", stream, 1, file[53:56])) != b"rie":
+    if bytes(computed("add_stream", stream, 1, file[53:56])) != b"rie":
         yield "the definitions do not open a range of the sample"
     rows = page.table("tag key", "bytes", "tag")
     tags = [(key_of(cell), tagged(what, bytes(file)), octets(tag)) for cell, what, tag in rows]
     _, tag_key, other = sample("tagged")
     for key, message, tag in tags + [(tag_key, other[: -archive.TAG], other[-archive.TAG :])]:
-        made = computed("macOf", computed("encrypted", computed("scheduleOf", tuple(key))), tuple(message))
+        made = computed("mac_of", computed("encrypted", computed("schedule_of", tuple(key))), tuple(message))
         if bytes(made) != tag:
             yield "the definitions give another tag of %d bytes: %s" % (len(message), bytes(made).hex(" "))
 

@@ -2,13 +2,12 @@
 
     python3 tests/docs/check_layout.py
 
-No line of a .rt or .antt file is longer than 140 columns, every must-fail edit begins with a line
-`# ..` that says what a reader would lose, and rt finds nothing to lay out anew.
+No line of a .rt or .antt file is longer than 140 columns, and every must-fail edit begins with a line
+`# ..` that says what a reader would lose. That rt would lay out nothing anew, `rt ci` sees itself.
 """
 
 import glob
 import os
-import subprocess
 import sys
 
 TOP = os.path.join(os.path.dirname(os.path.abspath(__file__)), "..", "..")
@@ -21,7 +20,9 @@ def read(path):
 
 
 def found(pattern):
-    return sorted(glob.glob(os.path.join(TOP, "crates", "**", pattern), recursive=True))
+    """The files of that form, without those that rt makes in out/."""
+    parts = [os.path.join("crates", "*", part, "**", pattern) for part in ("src", "specs", "proofs", "must-fail")]
+    return sorted(path for part in parts for path in glob.glob(os.path.join(TOP, part), recursive=True))
 
 
 def faults():
@@ -32,9 +33,6 @@ def faults():
     for path in found("*.edit"):
         if not read(path).startswith("# "):
             yield "%s: no head" % os.path.relpath(path, TOP)
-    fmt = subprocess.run(["rt", "fmt", "--check"], cwd=TOP, capture_output=True, text=True)
-    if fmt.returncode:
-        yield fmt.stdout.strip() + fmt.stderr.strip()
 
 
 if __name__ == "__main__":
@@ -43,4 +41,4 @@ if __name__ == "__main__":
         print(fault)
     if wrong:
         sys.exit(1)
-    print("crates/: no line is longer than %d columns, every edit has its head, the layout is rt's" % LONGEST)
+    print("crates/: no line is longer than %d columns, every edit has its head" % LONGEST)

@@ -1,14 +1,15 @@
 """Sees that every promise of docs/ASSURANCE.md is said, and proved, in the files that its row names.
 
-    python3 tests/docs/check_names.py
+    python3 tests/docs/check_names.py            sees that it is so
+    python3 tests/docs/check_names.py --write    first puts the proof of each contract where it now stands
 
 A row is `| promise | name | definition | proof |`, with paths from crates/. The name is one of
 
     `THEOREM : STATEMENT`         the definition's file defines a word of the statement, and the proof's
                                   file has the line `pub THEOREM : STATEMENT`
     `WORD` of `CRATE::FUNCTION`   the function's `ensures` names WORD, the definition's file defines it, and
-                                  the proof is the function's own, with `pub FUNCTION-spec :`; or it is
-                                  made by the prover, and then there is no such file
+                                  the proof is the folder of the function's own proof, `proofs/FUNCTION/`;
+                                  or it is made by the prover, and then there is no such folder
 
 That the proofs hold is for rt to say: it refuses a file that it does not prove. Whether a contract is
 strong enough is for its reader, and for the must-fail edits. Beside the rows, every public function
@@ -24,8 +25,10 @@ TOP = os.path.join(os.path.dirname(os.path.abspath(__file__)), "..", "..")
 UNDER_TITLE = re.compile(r"\n\|(?: *:?-+:? *\|){4}\n")
 THEOREM = re.compile(r"`([\w-]+) : ([^`]+)`")
 CONTRACT = re.compile(r"`(\S+)` of `(\w+)::(\w+)`")
-HEAD = re.compile(r'^((?:pub )?(?:extern "C" )?fn (\w+).*?)\{$', re.M | re.S)
+HEAD = re.compile(r'^ *((?:pub )?(?:extern "C" )?fn (\w+).*?)\{$', re.M | re.S)
 MADE = "made by the prover"
+# What may be written of a function's proof.
+PARTS = ("Proof.antt", "Invariants.antt", "Answers.antt")
 
 
 def read(path):
@@ -48,7 +51,7 @@ def heads(crate):
 
 
 def defines(path, word):
-    return re.search(r"^(abbrev |unfoldable )?pub (record )?_?%s_? " % re.escape(word), read(path), re.M)
+    return re.search(r"^(abbrev |unfoldable )?pub (record )?(%s|◌%s◌) " % (re.escape(word), re.escape(word)), read(path), re.M)
 
 
 def theorem_faults(name, statement, definition, proof):
@@ -64,12 +67,22 @@ def contract_faults(word, crate, function, definition, proof):
         yield "the contract of %s::%s does not name %s" % (crate, function, word)
     if not defines(definition, word):
         yield "%s does not define %s" % (definition, word)
-    own = ["%s/proofs/%s%s/Proof.antt" % (crate, mark, function) for mark in ("", "+")]
+    own = own_proof(crate, function)
     if proof == MADE:
-        if any(map(read, own)):
-            yield "the proof of %s::%s is not made by the prover: there is a file" % (crate, function)
-    elif proof not in own or not re.search(r"^pub \+?%s-spec :" % function.replace("_", "-"), read(proof), re.M):
-        yield "%s has no proof of %s::%s" % (proof, crate, function)
+        if own:
+            yield "the proof of %s::%s is not made by the prover: there is %s" % (crate, function, own)
+    elif proof != own:
+        yield "%s is not the proof of %s::%s" % (proof, crate, function)
+
+
+def own_proof(crate, function):
+    """The folder of what is written of a function's proof, from crates/; empty where nothing is."""
+    for mark in ("", "+"):
+        folder = "%s/proofs/%s%s/" % (crate, mark, function)
+        cited = "Rattle.%s.proofs.%s%s." % (crate, mark, function)
+        if any(cited in read(folder + part) for part in PARTS):
+            return folder
+    return ""
 
 
 def row_faults(row):
@@ -83,6 +96,17 @@ def row_faults(row):
     if contract:
         return list(contract_faults(*contract.groups(), *files))
     return ["neither a theorem nor a contract: %s" % name]
+
+
+def with_proofs(text):
+    """The page with the proof of each contract where it now stands."""
+
+    def put(row):
+        crate, function = row.group(2, 3)
+        own = own_proof(crate, function)
+        return row.group(1) + (" `%s` |" % own if own else " %s |" % MADE)
+
+    return re.sub(r"^(\|.*\| `\S+` of `(\w+)::(\w+)` \|[^|]*\|)[^|]*\|$", put, text, flags=re.M)
 
 
 def rows(text):
@@ -102,8 +126,14 @@ def call_faults():
 
 
 def main():
-    with open(os.path.join(TOP, "docs", "ASSURANCE.md"), encoding="utf-8") as file:
-        found = [row_faults(row) for row in rows(file.read())]
+    path = os.path.join(TOP, "docs", "ASSURANCE.md")
+    with open(path, encoding="utf-8") as file:
+        text = file.read()
+    if sys.argv[1:] == ["--write"]:
+        text = with_proofs(text)
+        with open(path, "w", encoding="utf-8") as file:
+            file.write(text)
+    found = [row_faults(row) for row in rows(text)]
     calls = list(call_faults())
     for fault in sum(found, calls):
         print(fault)

@@ -55,9 +55,10 @@ def programs():
 def figures():
     edits = found("crates/*/must-fail/*.edit")
     of_definitions = [path for path in edits if re.search(r"^file: specs/", read(path), re.M)]
-    yield "crates", count(r"^\w+:", "crates.txt")
-    yield "functions", count(r'^(?:pub )?(?:extern "C" )?fn ', "crates/*/src/*.rt")
-    yield "of these proved by a file of their own", len(found("crates/*/proofs/*/Proof.antt"))
+    yield "crates", count(r"^\w+( \w+)*:", "crates.txt")
+    yield "functions", count(r'^ *(?:pub )?(?:extern "C" )?fn ', "crates/*/src/*.rt")
+    written = [path for part in ("Proof", "Invariants", "Answers") for path in found("crates/*/proofs/*/%s.antt" % part)]
+    yield "of these proved by files of their own", len({os.path.dirname(path) for path in written})
     yield "must-fail edits", len(edits)
     yield "of these with a changed definition", len(of_definitions)
     yield "crates with edits", len({os.path.dirname(path) for path in edits})

@@ -22,7 +22,8 @@ BINDS = {
     "++": (65, False),
     "||": (30, False),
 }
-TOKEN = re.compile(r"\[\]|[(){};.]|(?:[^\s(){};.\[\]])+")
+# A part of a record is written tight, as `s.rounds`: a sign of its own, with its point.
+TOKEN = re.compile(r"\[\]|(?<=[\w)])\.\w+|[(){};.]|(?:[^\s(){};.\[\]])+")
 CLOSING = {")", "}", ";", ".", "in", "=", ":"}
 
 
@@ -32,7 +33,7 @@ def signs(text):
 
 def bare(name):
     """An operator's sign without the places of its operands."""
-    return name.strip("_") or name
+    return name.strip("◌") or name
 
 
 class File:
@@ -61,7 +62,7 @@ class File:
 def clause(name, line):
     """The patterns of a clause, and the signs of its right side."""
     left, right = re.split(r"\s=\s", line, maxsplit=1)
-    if name.startswith("_"):
+    if name.startswith("◌"):
         return left.split(" %s " % bare(name)), signs(right)
     return re.findall(r"\([^)]*\)|\S+", left)[1:], signs(right)
 
@@ -131,12 +132,15 @@ class Parser:
         whole = self.atom()
         while self.peek() not in CLOSING and self.peek() not in BINDS and self.peek() is not None:
             whole = applied(whole, self.atom())
-        while self.peek() == "." and self.tokens[self.at + 1 : self.at + 2]:
-            self.take(".")
-            whole = part(whole, self.take())
         return whole
 
     def atom(self):
+        whole = self.simple()
+        while (self.peek() or "").startswith(".") and self.peek() != ".":
+            whole = part(whole, self.take()[1:])
+        return whole
+
+    def simple(self):
         token = self.take()
         if token == "(":
             inside = self.expression()
@@ -221,13 +225,13 @@ GIVEN = {
     "/": total(2, lambda n, m: n // m),
     "%": total(2, lambda n, m: n % m),
     "^": total(2, lambda n, m: n**m),
-    "bitXor": total(2, lambda n, m: n ^ m),
+    "bit_xor": total(2, lambda n, m: n ^ m),
     "∷": total(2, lambda x, xs: (x,) + xs),
     "++": total(2, lambda xs, ys: xs + ys),
     "length": total(1, len),
     "take": total(2, lambda n, xs: xs[:n]),
     "drop": total(2, lambda n, xs: xs[n:]),
-    "getD": total(3, lambda xs, n, x: xs[n] if n < len(xs) else x),
+    "get_or": total(3, lambda xs, n, x: xs[n] if n < len(xs) else x),
     "replicate": total(2, lambda n, x: (x,) * n),
     "map": total(2, lambda g, xs: tuple(now(g(x)) for x in xs)),
     "cond": lambda test: lambda x: lambda y: now(x) if now(test) else now(y),

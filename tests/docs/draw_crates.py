@@ -34,12 +34,15 @@ def parsed(text):
         title = LAYER.match(line)
         if title:
             layers.append(("%s %s" % title.groups(), []))
-        name, colon, listed = line.split("#")[0].partition(":")
-        if colon and not layers:
+        head, colon, listed = line.split("#")[0].partition(":")
+        if not colon:
+            continue
+        # behind the name there may be words for rt, as `staticlib`
+        name = head.split()[0]
+        if not layers:
             sys.exit("crates.txt: %s stands in no layer" % name)
-        if colon:
-            layers[-1][1].append(name.strip())
-            deps[name.strip()] = listed.split()
+        layers[-1][1].append(name)
+        deps[name] = listed.split()
     return layers, deps
 
 
@@ -89,7 +92,8 @@ def check(path, diagram):
 def code_of(crate):
     """What stands in a crate's files of code, definitions and proofs, comments left out."""
     folder = os.path.join(TOP, "crates", crate)
-    files = [os.path.join(at, name) for at, _, names in os.walk(folder) for name in sorted(names)]
+    parts = [os.path.join(folder, part) for part in ("src", "specs", "proofs")]
+    files = [os.path.join(at, name) for part in parts for at, _, names in os.walk(part) for name in sorted(names)]
     texts = [read(file) for file in files if file.endswith((".rt", ".antt"))]
     return "".join(re.sub(r"(//|--).*", "", text) for text in texts)
 
@@ -99,7 +103,7 @@ def cited(deps):
     for name in deps:
         code = code_of(name)
         for dep in deps[name]:
-            if not re.search(r"Rattle·%s\.|(?<![\w:])%s::" % (dep, dep), code):
+            if not re.search(r"\bRattle\.%s\.|(?<![\w:])%s::" % (dep, dep), code):
                 missing.append("%s does not cite %s" % (name, dep))
     if missing:
         sys.exit("crates.txt: " + "; ".join(missing))

@@ -36,7 +36,8 @@ unfolding wrong_tag_cases
 tag_passes tag_key file e = one_passes _ 25 (ap not (eq_same _ _ (sym e)))
 
 module _ (order : List ℕ → ℕ) (key tag_key file : List ℕ) (e : first_of (check_cases_by order key tag_key file) ≡ 0) where
-  key_stage : (first_of (key_cases (length key)) ≡ 0) × (first_of (under_key_cases_by order (schedule_of key) (length key) tag_key file) ≡ 0)
+  key_stage : (first_of (key_cases (length key)) ≡ 0)
+      × (first_of (under_key_cases_by order (schedule_of key) (length key) tag_key file) ≡ 0)
   unfolding check_cases_by
   key_stage = first_none (key_cases (length key)) _ (key_positive (length key)) e
 

@@ -23,7 +23,8 @@ use Rattle.header.specs.Cases.{header_cases}
 use Rattle.header.proofs.Cases.{not_of_header, header_positive, header_lacks}
 use Rattle.directory.specs.Check.{directory_cases_by}
 use Rattle.directory.proofs.Cases.{not_of_directory, directory_positive, directory_lacks}
-use Rattle.admission.specs.Check.{key_check, wrong_tag_cases, file_cases_by, under_key_cases, under_key_cases_by, check_cases, check_cases_by}
+use Rattle.admission.specs.Check.{key_check, wrong_tag_cases, file_cases_by, under_key_cases}
+use Rattle.admission.specs.Check.{under_key_cases_by, check_cases, check_cases_by}
 use Rattle.admission.specs.Check.{tag_schedule_under}
 
 -- m is the number of no case of checking: computed where m is a numeral

@@ -14,7 +14,8 @@ use Rattle.refusals.specs.Shared.{good_key, key_cases, tag_key_cases}
 use Rattle.refusals.proofs.Cases.{first_stop, first_pass, first_alike, clear}
 use Rattle.octets.specs.Equality.{same_bytes}
 use Rattle.expansion.specs.KeySchedule.{schedule_of}
-use Rattle.header.specs.Fields.{layout_of, is_layout, layout_under, tag_size, key_length_of, count_of, key_check_of, length_of, directory_of}
+use Rattle.header.specs.Fields.{layout_of, is_layout, layout_under, tag_size, key_length_of}
+use Rattle.header.specs.Fields.{count_of, key_check_of, length_of, directory_of}
 use Rattle.header.specs.Fields.{directory_end, bodies_end}
 use Rattle.header.specs.Cases.{front_cases, field_cases, header_cases}
 use Rattle.header.proofs.Layouts.{tag_none}
@@ -86,7 +87,8 @@ module _ (key file : List ℕ) where
       ap₂ fields (ap (λ (k : ℕ). directory_end file + k) (tag_none (layout_of file) other) ∙ add-zero (directory_end file)) (untagged one)
 
   checking : first_of (check_cases key [] file) ≡ renumbered file (first_of (layout1_cases key file))
-  unfolding check_cases_by under_key_cases_by file_cases_by header_cases front_cases field_cases key_cases tag_key_cases good_key layout_under layout1_cases
+  unfolding check_cases_by under_key_cases_by file_cases_by header_cases front_cases field_cases key_cases tag_key_cases good_key
+      layout_under layout1_cases
       renumbered first_of
   checking =
       judged (not (good_key (length key))) (ltb (length file) 20) (ltb 65536 (length file)) (layout_of file) _ _ same_fields

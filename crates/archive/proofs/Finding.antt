@@ -64,7 +64,8 @@ module _ (key tag_key file number : List ℕ) where
           (q, sym (first_pass (check_cases key tag_key file) (number_cases file number) (check_positive order_of key tag_key file) q) ∙ e)
       go (suc n) q =
           let same = first_stop (check_cases key tag_key file) (number_cases file number) (λ z. let y = sym q ∙ z in omega arith) in
-          absurd (first_lacks 19 (check_cases key tag_key file) (omega arith) (check_lacks order_of key tag_key file 19 refl) (sym same ∙ e))
+          absurd (first_lacks 19 (check_cases key tag_key file) (omega arith) (check_lacks order_of key tag_key file 19 refl) (sym same
+          ∙ e))
 
   -- what an index tells
   module _ (i : ℕ) (e : find_of key tag_key file number ≡ gives i) where

@@ -39,7 +39,8 @@ module _ (file : List ℕ) (sound : Sound (directory_of file) (directory_end fil
       ∙ ap (λ (k : ℕ). take k file) (sym (sound.next n))
 
 -- the bytes under the tag, and then the tag, are the file
-whole : (tag_key file : List ℕ) → tag_of file ≡ tag_bytes tag_key (tagged_of file) → tagged_of file ++ tag_bytes tag_key (tagged_of file) ≡ file
+whole : (tag_key file : List ℕ) → tag_of file ≡ tag_bytes tag_key (tagged_of file)
+    → tagged_of file ++ tag_bytes tag_key (tagged_of file) ≡ file
 unfolding tag_of tagged_of
 whole tag_key file e = ap (λ (l : List ℕ). take (bodies_end file) file ++ l) (sym e) ∙ take-append-drop (bodies_end file) file
 

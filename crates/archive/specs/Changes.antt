@@ -7,5 +7,6 @@ use Rattle.archive.specs.Check.{check_of}
 
 -- were the file accepted with byte i set to b too, the byte would be b already
 abbrev pub OneByteChanged : Type 0
-OneByteChanged = (key tag_key file : List ℕ) (n m i b : ℕ) → (length tag_key ≡ 0 → ⊥) → check_of key tag_key file ≡ gives n → i < length file
+OneByteChanged = (key tag_key file : List ℕ) (n m i b : ℕ) → (length tag_key ≡ 0 → ⊥) → check_of key tag_key file ≡ gives n
+    → i < length file
     → check_of key tag_key (set file i b) ≡ gives m → b ≡ get_or file i 0

@@ -10,4 +10,5 @@ use Rattle.opening.specs.Open.{plain_range, open_cases, open_of}
 pub record BenchOpens (key tag_key file number : List ℕ) (first count : ℕ) (before : List ℕ) (r : ℕ) (after : List ℕ) : Type 0 where
   pub refusal : r ≡ first_of (open_cases key tag_key file number first count (length before))
   pub bytes : after
-      ≡ written_for (open_of key tag_key file number first count (length before)) (plain_range (schedule_of key) file number first count) before
+      ≡ written_for (open_of key tag_key file number first count (length before)) (plain_range (schedule_of key) file number first count)
+      before

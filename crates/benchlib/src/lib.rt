@@ -1,6 +1,7 @@
 // Calls that `libaria.a` does not export, for the bench of host/ and the tests alone: counter mode under a key, checking an archive,
 // opening a job of it, dropping jobs from it, the preview of that, and sealing one, with one number for the answer.
 #![tactic(auto)]
+
 ghost use Rattle.std.specs.Prelude.{◌≡◌};
 ghost use Rattle.refusals.specs.Cases.{first_of};
 ghost use Rattle.refusals.specs.Answers.{refusal_in};

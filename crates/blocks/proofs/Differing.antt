@@ -42,7 +42,8 @@ none_differs a b zero e k l = absurd (omega arith)
 none_differs a b (suc i) e k l =
     let seen : differing a b i ≡ 0 = or_none (differing a b i) (bit_xor (get_or a i 0) (get_or b i 0)) e in
     let last : bit_xor (get_or a i 0) (get_or b i 0) ≡ 0 =
-    or_none (bit_xor (get_or a i 0) (get_or b i 0)) (differing a b i) (or_comm (bit_xor (get_or a i 0) (get_or b i 0)) (differing a b i) ∙ e)
+    or_none (bit_xor (get_or a i 0) (get_or b i 0)) (differing a b i) (or_comm (bit_xor (get_or a i 0) (get_or b i 0)) (differing a b i)
+    ∙ e)
     in
     below_more _ _ (none_differs a b i seen) (xor_zero_eq (get_or a i 0) (get_or b i 0) last) k (rw add-one l)
 

@@ -95,7 +95,8 @@ module _ (f : ℕ → ℕ → ℕ) where
           entering_next j
           ∙ ap (λ (l : List ℕ). xor_block (diffusion (layer_after f (j % 2) l)) (key_at ks' (suc j)))
           (meet j (suc i) (omega arith) ∙ leaving_next i)
-          ∙ ap (λ (l : List ℕ). xor_block (diffusion l) (key_at ks' (suc j))) (layers_undo (suc i) j (omega arith) (xor_block (diffusion w) k))
+          ∙ ap (λ (l : List ℕ). xor_block (diffusion l) (key_at ks' (suc j)))
+          (layers_undo (suc i) j (omega arith) (xor_block (diffusion w) k))
           ∙ ap₂ (λ (l r : List ℕ). xor_block l r) (linear (diffusion w) k (length_diffusion w ∙ sym lk))
           (t.inner (suc i) (suc j) (omega arith) (omega arith) (omega arith))
           ∙ ap (λ (l : List ℕ). xor_block (xor_block l (diffusion k)) (diffusion k)) (self_inverse w (length_leaving i))

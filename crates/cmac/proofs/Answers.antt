@@ -137,7 +137,8 @@ module _ (key run before : List ℕ) where
         let n : 23 ≡ number_of = sym (past_key (length key) (length before) good ∙ tag_23 (length before) h) in
         record { number = n; bytes = left 23 (λ q. omega (arith, q)) n }
 
-    pub writes_tag : (s : Schedule) (tag after : List ℕ) → length before ≡ 16 → length tag ≡ 16 → s ≡ schedule_of key → tag ≡ tag_under s run
+    pub writes_tag : (s : Schedule) (tag after : List ℕ) → length before ≡ 16 → length tag ≡ 16 → s ≡ schedule_of key
+        → tag ≡ tag_under s run
         → after ≡ overwritten tag before → WritesTag key run before 0 after
     writes_tag s tag after h l es et ea =
         let n : number_of ≡ 0 = past_key (length key) (length before) good ∙ tag_0 (length before) h in

@@ -18,7 +18,8 @@ pub struct Tagged {
     pub tag: [u8; 16],
 }
 
-// A comparison's answer, the standard's VALID and INVALID (02's yes and no), or a refusal. The papers' numbers are given by `verdict_number`
+// A comparison's answer, the standard's VALID and INVALID (02's yes and no), or a refusal. The papers' numbers are given by
+// `verdict_number`
 // of specs/.
 #[derive(Drop)]
 pub enum Verdict {

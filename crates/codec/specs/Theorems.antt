@@ -24,7 +24,8 @@ pub record ReadsBack (key tag_key number : List ℕ) (js : List Job) (file : Lis
 
 -- what is built under good keys reads back
 abbrev pub BuiltReads : Type 0
-BuiltReads = (key tag_key number : List ℕ) (js : List Job) → first_of (key_cases (length key)) ≡ 0 → first_of (tag_key_cases (length tag_key)) ≡ 0
+BuiltReads = (key tag_key number : List ℕ) (js : List Job) → first_of (key_cases (length key)) ≡ 0
+    → first_of (tag_key_cases (length tag_key)) ≡ 0
     → Fine tag_key number js → ReadsBack key tag_key number js (archive_of key tag_key number js)
 
 -- an accepted file of bytes is what its own archive number and jobs make. Over lists of any numbers it is false: `bytes32` writes

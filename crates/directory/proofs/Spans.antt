@@ -43,7 +43,8 @@ module _ (o p : List ℕ → ℕ) (d : List ℕ) where
     unfolding entry_cases_by first_of
     entry_alike i h = go (digits (entry_at d i)) refl
       where
-        go : (b : Bool) → digits (entry_at d i) ≡ b → first_of (entry_cases_by o d from limit i) ≡ first_of (entry_cases_by p d from limit i)
+        go : (b : Bool) → digits (entry_at d i) ≡ b
+            → first_of (entry_cases_by o d from limit i) ≡ first_of (entry_cases_by p d from limit i)
         go true e = rw (h e)
         go false e = rw e
 
@@ -58,7 +59,8 @@ module _ (o p : List ℕ → ℕ) (d : List ℕ) where
       directory_alike : first_of (directory_cases_by o d from limit) ≡ first_of (directory_cases_by p d from limit)
       unfolding directory_cases_by
       directory_alike =
-          first_alike (item_by_item (entry_cases_by o d from limit) (entries d)) (item_by_item (entry_cases_by p d from limit) (entries d)) _ _
+          first_alike (item_by_item (entry_cases_by o d from limit) (entries d)) (item_by_item (entry_cases_by p d from limit) (entries d))
+          _ _
           (entries_positive o d from limit) (entries_positive p d from limit)
           (items_alike (entry_cases_by o d from limit) (entry_cases_by p d from limit) (entries d)
           (entry_positive o d from limit) (entry_positive p d from limit)
@@ -132,7 +134,8 @@ module _ (d : List ℕ) (from limit : ℕ) (e : first_of (directory_cases_by job
         go (suc m) q =
             let lm : suc m < entries d = omega arith in
             let agree : (i : ℕ) → i < m
-            → ltb (order_of (entry_at d i)) (order_of (entry_at d (suc i))) ≡ ltb (job_number (entry_at d i)) (job_number (entry_at d (suc i))) =
+            → ltb (order_of (entry_at d i)) (order_of (entry_at d (suc i)))
+            ≡ ltb (job_number (entry_at d i)) (job_number (entry_at d (suc i))) =
             λ i li. both_recent (entry_at d i) (entry_at d (suc i)) (numeric i (omega arith)) (numeric (suc i) (omega arith))
             (low i (omega arith)) (low (suc i) (omega arith))
             in

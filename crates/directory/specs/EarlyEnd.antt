@@ -30,4 +30,5 @@ full_search_of d number = answer (first_of (full_search_cases d number)) (full_i
 
 -- on a directory that passes its checks a search answers what the full one does
 abbrev pub Unchanged : Type 0
-Unchanged = (d number : List ℕ) (from limit : ℕ) → first_of (directory_cases d from limit) ≡ 0 → search_of d number ≡ full_search_of d number
+Unchanged = (d number : List ℕ) (from limit : ℕ) → first_of (directory_cases d from limit) ≡ 0
+    → search_of d number ≡ full_search_of d number

@@ -101,7 +101,8 @@ module _ (key tag_key file : List ℕ) (count : ℕ) (e : check_of key tag_key f
 
       -- none has: the room is asked for
       room_answers : ((k : ℕ) → k < numbers list → Borne file (listed list k))
-          → first_of (drop_cases key tag_key file list (length before)) ≡ first_of (room_cases (length_left tag_key file list) (length before))
+          → first_of (drop_cases key tag_key file list (length before))
+          ≡ first_of (room_cases (length_left tag_key file list) (length before))
       unfolding drop_cases
       room_answers all =
           first_pass (asked_cases key tag_key file list) _ (asked_positive key tag_key file list) (list_borne list whole all)

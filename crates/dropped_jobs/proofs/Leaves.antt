@@ -46,7 +46,8 @@ use Rattle.dropped_jobs.proofs.Answers.{drop_answers}
 -- ---- what finding answers tells of opening
 
 -- two files in which a number has the same cases and the same sealed body
-as_before : (key tag_key file new number : List ℕ) → first_of (find_cases key tag_key new number) ≡ first_of (find_cases key tag_key file number)
+as_before : (key tag_key file new number : List ℕ)
+    → first_of (find_cases key tag_key new number) ≡ first_of (find_cases key tag_key file number)
     → body_of new number ≡ body_of file number → archive_number new ≡ archive_number file → AsBefore key tag_key file new number
 unfolding open_cases
 as_before key tag_key file new number found body named = record {
@@ -126,7 +127,8 @@ module _ (key tag_key file list : List ℕ) (none : first_of (asked_cases key ta
       (key_0 (length key) (accepted_key order_of key tag_key file stages.0))
       (accepted_tag_key order_of key tag_key file stages.0) fine
 
-  pub says : HeaderSays (layout_under tag_key) (length key) (length (jobs_left file list)) (archive_number file) (key_check (schedule_of key))
+  pub says : HeaderSays (layout_under tag_key) (length key) (length (jobs_left file list)) (archive_number file)
+      (key_check (schedule_of key))
       (length_left tag_key file list) new
   unfolding dropped_file
   says = built_says key tag_key (archive_number file) (jobs_left file list) fine
@@ -167,7 +169,8 @@ module _ (key tag_key file list before : List ℕ) (n : ℕ) (after : List ℕ) 
   -- it has no case, and n is the new archive's length
   pub given : (first_of (asked_cases key tag_key file list) ≡ 0) × (length_left tag_key file list ≡ n)
   given =
-      let p = answer_gives (first_of (drop_cases key tag_key file list (length before))) (length_left tag_key file list) n (sym d.answered) in
+      let p = answer_gives (first_of (drop_cases key tag_key file list (length before))) (length_left tag_key file list) n (sym d.answered)
+      in
       (drop_asked key tag_key file list (length before) p.0, p.1)
 
   -- that archive stands in the buffer, and then what stood there before

@@ -60,7 +60,8 @@ DropShortens = (key tag_key file list before : List ℕ) (a : Answer) (after : L
 
 -- a list of no numbers leaves an accepted file of bytes as it is, byte for byte, in a buffer long enough
 abbrev pub DropNone : Type 0
-DropNone = (key tag_key file before : List ℕ) (count : ℕ) (a : Answer) (after : List ℕ) → Octets file → check_of key tag_key file ≡ gives count
+DropNone =
+    (key tag_key file before : List ℕ) (count : ℕ) (a : Answer) (after : List ℕ) → Octets file → check_of key tag_key file ≡ gives count
     → length file ≤ length before → Drops key tag_key file [] before a after
     → (a ≡ gives (length file)) × (after ≡ file ++ drop (length file) before)
 

@@ -27,7 +27,8 @@ module _ (key tag_key file list : List ℕ) where
   asked_check n some e = e ∙ sym (first_stop (check_cases key tag_key file) (list_cases file list) (λ q. some (e ∙ q)))
 
   -- none of the archive: the list's
-  pub asked_list : first_of (check_cases key tag_key file) ≡ 0 → first_of (asked_cases key tag_key file list) ≡ first_of (list_cases file list)
+  pub asked_list : first_of (check_cases key tag_key file) ≡ 0
+      → first_of (asked_cases key tag_key file list) ≡ first_of (list_cases file list)
   unfolding asked_cases
   asked_list check = first_pass (check_cases key tag_key file) _ (check_positive order_of key tag_key file) check
 

@@ -49,7 +49,8 @@ module _ (list : List ℕ) where
       by_test (Ascending order) (is_listed list j.number) (ascending_without r) (more (each_without above) (ascending_without r))
 
   -- they are no more, and their bodies no longer
-  pub without_less : (js : List Job) → (length (without list js) ≤ length js) × (length (bodies_in (without list js)) ≤ length (bodies_in js))
+  pub without_less : (js : List Job) → (length (without list js) ≤ length js)
+      × (length (bodies_in (without list js)) ≤ length (bodies_in js))
   unfolding without bodies_in
   without_less [] = (omega arith, omega arith)
   without_less (j ∷ js) =

@@ -102,7 +102,8 @@ same_schedule s t p q = ap₂ (λ (n : ℕ) (ks : List ℕ). record { rounds = n
 pub schedule_good : (n : ℕ) (w : List (List ℕ)) → GoodKey n
     → schedule_for n w ≡ record { rounds = rounds_for n; keys = key_bytes (λ (i : ℕ). get_or (encryption_keys w) i []) (rounds_for n + 1) }
 unfolding schedule_for
-schedule_good n w g = ap (λ (k : ℕ). record { rounds = rounds_for n; keys = key_bytes (λ (i : ℕ). get_or (encryption_keys w) i []) k }) g.keys
+schedule_good n w g = ap (λ (k : ℕ). record { rounds = rounds_for n; keys = key_bytes (λ (i : ℕ). get_or (encryption_keys w) i []) k })
+    g.keys
 
 pub schedule_bad : (n : ℕ) (w : List (List ℕ)) → BadKey n → schedule_for n w ≡ record { rounds = 0; keys = replicate 272 0 }
 unfolding schedule_for key_bytes row

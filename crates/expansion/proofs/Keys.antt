@@ -54,4 +54,5 @@ pub keys_made : (w : List (List ℕ)) {a b c d : List (List ℕ)} {v k : List �
     → four_then a (four_then b (four_then c (four_then d (k ∷ [])))) ≡ encryption_keys w
 unfolding four encryption_keys
 keys_made w a b c d v k =
-    ap₂ four_then a (ap₂ four_then b (ap₂ four_then c (ap₂ four_then d (ap (λ (x : List ℕ). x ∷ []) (k ∙ ap (xor_block (get_or w 0 [])) v)))))
+    ap₂ four_then a (ap₂ four_then b (ap₂ four_then c (ap₂ four_then d (ap (λ (x : List ℕ). x ∷ []) (k
+    ∙ ap (xor_block (get_or w 0 [])) v)))))

@@ -25,7 +25,8 @@ value_take e n (suc k) l =
     ap₂ (λ (a b : ℕ). a * 10 + (b - 48)) (value_take e n k (omega arith)) (get_or-take n e k 0 l)
 
 -- eight digits by pairs
-pub pairs : (s : List ℕ) (a b c d : ℕ) → a ≡ (get_or s 0 0 - 48) * 10 + (get_or s 1 0 - 48) → b ≡ (get_or s 2 0 - 48) * 10 + (get_or s 3 0 - 48)
+pub pairs : (s : List ℕ) (a b c d : ℕ) → a ≡ (get_or s 0 0 - 48) * 10 + (get_or s 1 0 - 48)
+    → b ≡ (get_or s 2 0 - 48) * 10 + (get_or s 3 0 - 48)
     → c ≡ (get_or s 4 0 - 48) * 10 + (get_or s 5 0 - 48) → d ≡ (get_or s 6 0 - 48) * 10 + (get_or s 7 0 - 48)
     → ((a * 100 + b) * 100 + c) * 100 + d ≡ job_number s
 pairs s a b c d ea eb ec ed = omega arith

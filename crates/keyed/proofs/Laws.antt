@@ -76,7 +76,8 @@ module _ (key xs : List ℕ) (f g : ℕ) (hf : f ≤ 1) (hg : g ≤ 1) where
       first k e = ap (λ (n : ℕ). unless_refused n (each_block there xs) xs) e
 
       second : (k : ℕ) → key_run_number (length key) f (length xs) ≡ k
-          → key_run_bytes key g (key_run_bytes key f xs) ≡ unless_refused k (each_block back (key_run_bytes key f xs)) (key_run_bytes key f xs)
+          → key_run_bytes key g (key_run_bytes key f xs)
+          ≡ unless_refused k (each_block back (key_run_bytes key f xs)) (key_run_bytes key f xs)
       second k e = ap (λ (n : ℕ). unless_refused n (each_block back (key_run_bytes key f xs)) (key_run_bytes key f xs)) (second_number ∙ e)
 
       by_number : (k : ℕ) → key_run_number (length key) f (length xs) ≡ k → key_run_bytes key g (key_run_bytes key f xs) ≡ xs

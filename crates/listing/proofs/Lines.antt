@@ -18,7 +18,8 @@ pub length_number_line : (word : List ℕ) (n : ℕ) → length (number_line wor
 unfolding number_line
 length_number_line word n = simp length-append
 
-pub length_job_line : (e : List ℕ) → length (job_line e) ≡ length (number_of e) + length (field (start_of e)) + length (field (size_of e)) + 1
+pub length_job_line : (e : List ℕ) → length (job_line e)
+    ≡ length (number_of e) + length (field (start_of e)) + length (field (size_of e)) + 1
 unfolding job_line
 length_job_line e = simp length-append
 

@@ -26,7 +26,8 @@ use Rattle.admission.specs.Check.{key_check, wrong_tag_cases, file_cases_by, und
 use Rattle.admission.proofs.Checking.{file_positive, check_positive}
 use Rattle.admission.proofs.Accepted.{accepted_directory, accepted_directory_by}
 use Rattle.archive.proofs.Finding.{find_refused}
-use Rattle.opened_jobs.specs.EarlyEnd.{full_find_cases, full_body_of, full_open_cases, full_open_of, full_plain_of, full_range_cases, full_range_of}
+use Rattle.opened_jobs.specs.EarlyEnd.{full_find_cases, full_body_of, full_open_cases, full_open_of}
+use Rattle.opened_jobs.specs.EarlyEnd.{full_plain_of, full_range_cases, full_range_of}
 use Rattle.opening.specs.Open.{range_of, plain_range, room_cases, range_cases, open_of}
 use Rattle.opened_jobs.specs.Spans.{SameSpanArchives, AllRefuse, MixedSpanArchives}
 use Rattle.opening.proofs.Opening.{opens_refused}
@@ -48,7 +49,8 @@ module _ (o p : List ℕ → ℕ) (key tag_key file : List ℕ) where
       (λ z. first_alike (tag_key_cases (length tag_key)) (tag_key_cases (length tag_key)) _ _ t t refl
       (λ y. first_alike (file_cases_by o (layout_under tag_key) (schedule_of key) (length key) file) (file_cases_by p (layout_under tag_key)
       (schedule_of key) (length key) file) (wrong_tag_cases tag_key file) (wrong_tag_cases tag_key file) (f o) (f p)
-      (first_alike (header_cases (layout_under tag_key) (length key) (key_check (schedule_of key)) file) _ _ _ h h refl (λ x. e)) (λ x. refl)))
+      (first_alike (header_cases (layout_under tag_key) (length key) (key_check (schedule_of key)) file) _ _ _ h h refl (λ x. e))
+      (λ x. refl)))
 
   module _ (number : List ℕ) (e : first_of (check_cases_by o key tag_key file) ≡ first_of (check_cases_by p key tag_key file)) where
     find_alike : first_of (full_find_cases o key tag_key file number) ≡ first_of (full_find_cases p key tag_key file number)
@@ -72,21 +74,24 @@ module _ (o p : List ℕ → ℕ) (key tag_key file : List ℕ) where
 pub same_span_archives : SameSpanArchives
 unfolding full_open_cases full_range_cases
 same_span_archives key tag_key file number held one =
-    let judged = check_alike order_of job_number key tag_key file (same_span (directory_of file) (directory_end file) (bodies_end file) one) in
+    let judged = check_alike order_of job_number key tag_key file (same_span (directory_of file) (directory_end file) (bodies_end file) one)
+    in
     let checked = ap (λ (n : ℕ). answer n (count_of file)) judged in
     let full = unchanged_archives key tag_key file number held in
     let alike = find_alike order_of job_number key tag_key file number judged in
     let found = ap (λ (n : ℕ). answer n (full_index_of (directory_of file) number)) alike in
     let size : ℕ = length (full_body_of file number) in
     let plain : List ℕ = full_plain_of (schedule_of key) file number in
-    let opened : full_open_of order_of key tag_key file number (length held) ≡ full_open_of job_number key tag_key file number (length held) =
+    let opened : full_open_of order_of key tag_key file number (length held)
+    ≡ full_open_of job_number key tag_key file number (length held) =
     ap (λ (n : ℕ). answer n size) (open_alike order_of job_number key tag_key file number judged (room_cases size (length held)))
     in
     let ranged : (first count : ℕ)
     → full_range_of order_of key tag_key file number first count (length held)
     ≡ full_range_of job_number key tag_key file number first count (length held) =
     λ first count.
-    ap (λ (n : ℕ). answer n count) (open_alike order_of job_number key tag_key file number judged (range_cases size first count (length held)))
+    ap (λ (n : ℕ). answer n count) (open_alike order_of job_number key tag_key file number judged
+    (range_cases size first count (length held)))
     in
     record {
       checking = checked;

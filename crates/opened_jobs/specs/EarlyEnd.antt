@@ -65,9 +65,11 @@ pub record AsFull (order : List ℕ → ℕ) (key tag_key file number before : L
       (plain_range (schedule_of key) file number 0 (job_size file number)) before
       ≡ written_for (full_open_of order key tag_key file number (length before)) (full_plain_of (schedule_of key) file number) before
   pub ranging : (first count : ℕ)
-      → open_of key tag_key file number first count (length before) ≡ full_range_of order key tag_key file number first count (length before)
+      → open_of key tag_key file number first count (length before)
+      ≡ full_range_of order key tag_key file number first count (length before)
   pub range_bytes : (first count : ℕ)
-      → written_for (open_of key tag_key file number first count (length before)) (plain_range (schedule_of key) file number first count) before
+      → written_for (open_of key tag_key file number first count (length before)) (plain_range (schedule_of key) file number first count)
+      before
       ≡ written_for (full_range_of order key tag_key file number first count (length before))
       (range_of first count (full_plain_of (schedule_of key) file number)) before
 

@@ -45,5 +45,6 @@ pub record AllRefuse (n : ℕ) (key tag_key file number held : List ℕ) : Type 
 
 -- those of one that was accepted lie in both spans
 abbrev pub MixedSpanArchives : Type 0
-MixedSpanArchives = (key tag_key file number held : List ℕ) (n : ℕ) → plain_check_of key tag_key file ≡ gives n → BothSpans (directory_of file)
+MixedSpanArchives = (key tag_key file number held : List ℕ) (n : ℕ) → plain_check_of key tag_key file ≡ gives n
+    → BothSpans (directory_of file)
     → AllRefuse 14 key tag_key file number held

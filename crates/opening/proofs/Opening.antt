@@ -46,7 +46,8 @@ module _ (file number : List ℕ) where
       rw (entry_none d (index_of d number) past)
 
   -- it comes to entry i, whose body is b
-  pub size_found : (i : ℕ) (b : List ℕ) → gives i ≡ search_of (directory_of file) number → b ≡ body_at file i → length b ≡ job_size file number
+  pub size_found : (i : ℕ) (b : List ℕ) → gives i ≡ search_of (directory_of file) number → b ≡ body_at file i
+      → length b ≡ job_size file number
   size_found i b e eb =
       let p = answer_gives (first_of (search_cases (directory_of file) number)) (index_of (directory_of file) number) i (sym e) in
       ap length (eb ∙ ap (body_at file) (sym p.1))
@@ -150,7 +151,8 @@ module _ (s : Schedule) (file number : List ℕ) (first count : ℕ) (before : L
             ∙ ap (λ (n : ℕ). answer n count) (sym asked);
         bytes = o.bytes
             ∙ ap₂ (λ (q l : List ℕ). written_for a (add_stream (keystream s q) first (range_of first count l)) before) ep same
-            ∙ ap (λ (l : List ℕ). written_for a l before) (sym (range_plain s (archive_number file) number (body_of file number) first count));
+            ∙ ap (λ (l : List ℕ). written_for a l before)
+            (sym (range_plain s (archive_number file) number (body_of file number) first count));
       }
 
 -- ---- after the check
@@ -173,7 +175,8 @@ module _ (key tag_key file number : List ℕ) (first count : ℕ) (before : List
   opens_asked s a after e es o =
       let rest = range_cases (job_size file number) first count (length before) in
       let all = ap first_of (append_assoc (check_cases key tag_key file) (number_cases file number) rest) in
-      let pass = first_pass (check_cases key tag_key file) (number_cases file number ++ rest) (check_positive order_of key tag_key file) e in
+      let pass = first_pass (check_cases key tag_key file) (number_cases file number
+      ++ rest) (check_positive order_of key tag_key file) e in
       record {
         answered = o.answered ∙ ap (λ (n : ℕ). answer n count) (sym (all ∙ pass));
         bytes = o.bytes ∙ ap (λ (t : Schedule). written_for a (plain_range t file number first count) before) es;
@@ -200,7 +203,8 @@ module _ (key tag_key file number : List ℕ) (first count : ℕ) (before after 
   given : (first_of (open_cases key tag_key file number first count (length before)) ≡ 0) × (count ≡ n)
   given = answer_gives _ _ n (sym o.answered)
 
-  stages : (first_of (find_cases key tag_key file number) ≡ 0) × (first_of (range_cases (job_size file number) first count (length before)) ≡ 0)
+  stages : (first_of (find_cases key tag_key file number) ≡ 0)
+      × (first_of (range_cases (job_size file number) first count (length before)) ≡ 0)
   unfolding open_cases
   stages = first_none (find_cases key tag_key file number) _ (find_positive key tag_key file number) given.0
 

@@ -29,7 +29,8 @@ module _ (key tag_key file list : List ℕ) where
       sym
       (ap (λ (n : ℕ). unless_refused n (listing_text key tag_key (dropped_file key tag_key file list)) (number_line refused_word n)) e)
 
-  text_some : (n : ℕ) → (n ≡ 0 → ⊥) → preview_number key tag_key file list ≡ n → number_line refused_word n ≡ preview_text key tag_key file list
+  text_some : (n : ℕ) → (n ≡ 0 → ⊥) → preview_number key tag_key file list ≡ n
+      → number_line refused_word n ≡ preview_text key tag_key file list
   unfolding preview_text
   text_some zero some e = absurd (some refl)
   text_some (suc n) some e =

@@ -14,7 +14,8 @@ use Rattle.boxes.specs.Layers.{layer_from}
 use Rattle.diffusion.specs.Diffusion.{rows, xor_at, by_rows, diffusion}
 use Rattle.rotation.specs.Rotation.{followed_by, as_number, as_block, rotate_right, rotate_left}
 use Rattle.circuit.specs.Circuit.{key_at, odd_round, even_round, last_round, rounds, circuit, aria}
-use Rattle.expansion.specs.KeySchedule.{c1, c2, c3, constants_for, rounds_for, keys_for, words_by, words_of, four, encryption_keys, key_bytes}
+use Rattle.expansion.specs.KeySchedule.{c1, c2, c3, constants_for, rounds_for, keys_for}
+use Rattle.expansion.specs.KeySchedule.{words_by, words_of, four, encryption_keys, key_bytes}
 use Rattle.expansion.specs.KeySchedule.{schedule_for, schedule_of}
 use Rattle.subkeys.specs.Subkeys.{shifted_left, r128, doubled}
 use Rattle.cmac.specs.Cmac.{last_block, mac_of}
@@ -45,10 +46,13 @@ unfolding sample_last tagged_last three_jobs three_less
     job24000017 rfc_key sample_file tagged_file sample_tag_key first_of item_by_item good_key key_cases tag_key_cases same_bytes first_index
     all_below xor_block block_of row s1 s2 s3 s4 boxes box_by box layer_from rows xor_at by_rows diffusion followed_by as_number as_block
     rotate_right rotate_left key_at odd_round even_round last_round rounds circuit aria c1 c2 c3 constants_for rounds_for keys_for words_by
-    words_of four encryption_keys key_bytes schedule_for schedule_of is_layout layout_under tag_size count_of archive_number directory_of tag_of
-    tagged_of front_cases field_cases header_cases entry_at digits is_job_number century_of serial_of order_of body_from ascends_in entry_cases_by
+    words_of four encryption_keys key_bytes schedule_for schedule_of is_layout layout_under tag_size count_of archive_number directory_of
+    tag_of
+    tagged_of front_cases field_cases header_cases entry_at digits is_job_number century_of serial_of order_of body_from ascends_in
+    entry_cases_by
     rest_cases directory_cases_by bears above ends_at stop_of index_of search_cases key_check tag_bytes wrong_tag_cases file_cases_by
-    under_key_cases_by check_cases_by body_at number_cases room_cases gave refused_by chained shifted_left r128 doubled last_block mac_of tag_under
+    under_key_cases_by check_cases_by body_at number_cases room_cases gave refused_by chained shifted_left r128 doubled last_block mac_of
+    tag_under
     entry_of directory_from bodies_in jobs_of whole_length header_of front_of archive_of listed is_listed list_cases without dropped_file
     asked_cases drop_cases job24000018 sample_less tagged_less
 samples_dropped = record {
@@ -62,13 +66,19 @@ samples_dropped = record {
 }
 
 pub drop_holds : every drop_readings ≡ true
-unfolding every drop_readings job24000017 rfc_key sample_file tagged_file sample_tag_key first_of item_by_item good_key key_cases tag_key_cases
-    same_bytes first_index all_below xor_block block_of row s1 s2 s3 s4 boxes box_by box layer_from rows xor_at by_rows diffusion followed_by
+unfolding every drop_readings job24000017 rfc_key sample_file tagged_file sample_tag_key first_of item_by_item good_key key_cases
+    tag_key_cases
+    same_bytes first_index all_below xor_block block_of row s1 s2 s3 s4 boxes box_by box layer_from rows xor_at by_rows diffusion
+    followed_by
     as_number as_block rotate_right rotate_left key_at odd_round even_round last_round rounds circuit aria c1 c2 c3 constants_for rounds_for
-    keys_for words_by words_of four encryption_keys key_bytes schedule_for schedule_of is_layout layout_under tag_size count_of archive_number
+    keys_for words_by words_of four encryption_keys key_bytes schedule_for schedule_of is_layout layout_under tag_size count_of
+    archive_number
     directory_of tag_of tagged_of front_cases field_cases header_cases entry_at digits is_job_number century_of serial_of order_of body_from
-    ascends_in entry_cases_by rest_cases directory_cases_by bears above ends_at stop_of index_of search_cases key_check tag_bytes wrong_tag_cases
-    file_cases_by under_key_cases_by check_cases_by body_at number_cases room_cases gave refused_by chained shifted_left r128 doubled last_block
-    mac_of tag_under entry_of directory_from bodies_in jobs_of whole_length header_of front_of archive_of listed is_listed list_cases without
+    ascends_in entry_cases_by rest_cases directory_cases_by bears above ends_at stop_of index_of search_cases key_check tag_bytes
+    wrong_tag_cases
+    file_cases_by under_key_cases_by check_cases_by body_at number_cases room_cases gave refused_by chained shifted_left r128 doubled
+    last_block
+    mac_of tag_under entry_of directory_from bodies_in jobs_of whole_length header_of front_of archive_of listed is_listed list_cases
+    without
     dropped_file asked_cases drop_cases job24000018 missing_job no_job_number sample_less tagged_less
 drop_holds = refl

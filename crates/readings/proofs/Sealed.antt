@@ -14,7 +14,8 @@ use Rattle.boxes.specs.Layers.{layer_from}
 use Rattle.diffusion.specs.Diffusion.{rows, xor_at, by_rows, diffusion}
 use Rattle.rotation.specs.Rotation.{followed_by, as_number, as_block, rotate_right, rotate_left}
 use Rattle.circuit.specs.Circuit.{key_at, odd_round, even_round, last_round, rounds, circuit, aria}
-use Rattle.expansion.specs.KeySchedule.{c1, c2, c3, constants_for, rounds_for, keys_for, words_by, words_of, four, encryption_keys, key_bytes}
+use Rattle.expansion.specs.KeySchedule.{c1, c2, c3, constants_for, rounds_for, keys_for}
+use Rattle.expansion.specs.KeySchedule.{words_by, words_of, four, encryption_keys, key_bytes}
 use Rattle.expansion.specs.KeySchedule.{schedule_for, schedule_of}
 use Rattle.ctr.specs.Counter.{counter_block, keystream, add_stream}
 use Rattle.subkeys.specs.Subkeys.{shifted_left, r128, doubled}
@@ -51,7 +52,8 @@ unfolding rfc_key sample_file sample_plain tagged_file sample_tag_key sample_she
     same_bytes first_index count_of archive_number directory_of entry_at bears above ends_at stop_of index_of body_at sheet_of plains_of
     shifted_left r128 doubled last_block mac_of tag_under
     first_of item_by_item good_key tag_key_cases all_below layout_under tag_size digits century_of serial_of order_of ascends_in
-    key_size_of line_at sizes_on is_length is_key_length sheet_cases line_cases lines_cases length_on key_file_cases length_cases rest_cases seal_cases
+    key_size_of line_at sizes_on is_length is_key_length sheet_cases line_cases lines_cases length_on key_file_cases length_cases rest_cases
+    seal_cases
 samples_sealed =
     record {
       sample = record { bytes = refl; answered = refl; own_sheet = refl; own_plain = refl };
@@ -63,5 +65,6 @@ samples_sealed =
 pub seal_holds : every seal_readings ≡ true
 unfolding every gave refused_by rfc_key sample_tag_key sample_sheet swapped_sheet sheet_with seal_readings
     first_of item_by_item good_key tag_key_cases all_below layout_under tag_size digits century_of serial_of order_of ascends_in
-    key_size_of line_at sizes_on is_length is_key_length sheet_cases line_cases lines_cases length_on key_file_cases length_cases rest_cases seal_cases
+    key_size_of line_at sizes_on is_length is_key_length sheet_cases line_cases lines_cases length_on key_file_cases length_cases rest_cases
+    seal_cases
 seal_holds = refl

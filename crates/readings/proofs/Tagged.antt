@@ -14,7 +14,8 @@ use Rattle.boxes.specs.Layers.{layer_from}
 use Rattle.diffusion.specs.Diffusion.{rows, xor_at, by_rows, diffusion}
 use Rattle.rotation.specs.Rotation.{followed_by, as_number, as_block, rotate_right, rotate_left}
 use Rattle.circuit.specs.Circuit.{key_at, odd_round, even_round, last_round, rounds, circuit, aria}
-use Rattle.expansion.specs.KeySchedule.{c1, c2, c3, constants_for, rounds_for, keys_for, words_by, words_of, four, encryption_keys, key_bytes}
+use Rattle.expansion.specs.KeySchedule.{c1, c2, c3, constants_for, rounds_for, keys_for}
+use Rattle.expansion.specs.KeySchedule.{words_by, words_of, four, encryption_keys, key_bytes}
 use Rattle.expansion.specs.KeySchedule.{schedule_for, schedule_of}
 use Rattle.ctr.specs.Counter.{counter_block, keystream, add_stream}
 use Rattle.subkeys.specs.Subkeys.{shifted_left, r128, doubled}

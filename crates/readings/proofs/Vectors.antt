@@ -18,7 +18,8 @@ use Rattle.readings.specs.Readings.{every}
 use Rattle.readings.specs.Vectors.{rfc_key, rfc_plain, rfc_sealed16, rfc_sealed24, rfc_sealed32, rfc_vector, rfc_vectors}
 
 pub rfc_vectors_hold : every rfc_vectors ≡ true
-unfolding every rfc_key rfc_plain rfc_sealed16 rfc_sealed24 rfc_sealed32 rfc_vector rfc_vectors good_key good_rounds same_bytes xor_block block_of row
+unfolding every rfc_key rfc_plain rfc_sealed16 rfc_sealed24 rfc_sealed32 rfc_vector rfc_vectors good_key good_rounds same_bytes xor_block
+    block_of row
     s1 s2 s3 s4 boxes box_by box layer_from rows xor_at by_rows diffusion followed_by as_number as_block rotate_right rotate_left
     key_at odd_round even_round last_round rounds circuit aria
     c1 c2 c3 constants_for rounds_for keys_for words_by words_of four encryption_keys key_bytes schedule_for schedule_of

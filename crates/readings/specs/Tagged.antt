@@ -38,7 +38,8 @@ tagged_readings =
     ∷ refused_by 1 (check_of (rfc_key 16) (values (λ (i : ℕ). i) 33) [])
     ∷ refused_by 10 (check_of (rfc_key 16) sample_tag_key (take 72 tagged_file))
     ∷ refused_by 24 (check_of (rfc_key 16) [] (take 20 tagged_file))
-    ∷ refused_by 11 (check_of (rfc_key 16) sample_tag_key (take 3 tagged_file ++ (0x00 ∷ take 12 (drop 4 tagged_file) ++ (0 ∷ 0 ∷ 0 ∷ 0x14 ∷ []))))
+    ∷ refused_by 11 (check_of (rfc_key 16) sample_tag_key (take 3 tagged_file
+    ++ (0x00 ∷ take 12 (drop 4 tagged_file) ++ (0 ∷ 0 ∷ 0 ∷ 0x14 ∷ []))))
     ∷ refused_by 17 (check_of (rfc_key 16) sample_tag_key (take 19 tagged_file ++ (0x4a ∷ drop 20 tagged_file ++ (0x00 ∷ []))))
     ∷ refused_by 24 (check_of (rfc_key 16) [] (0x02 ∷ 0x18 ∷ drop 2 tagged_file))
     ∷ refused_by 7 (check_of (rfc_key 16) sample_tag_key (0x03 ∷ drop 1 tagged_file))

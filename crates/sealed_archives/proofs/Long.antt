@@ -33,12 +33,14 @@ module _ (key_file tag_key sheet : List ℕ) where
   asks e = key_most _ (key_size_good sheet (sheet_good sheet e).sized)
 
   key_file_alike : key_size_on sheet ≤ 32
-      → first_of (key_file_cases (length (take 32 key_file)) (key_size_on sheet)) ≡ first_of (key_file_cases (length key_file) (key_size_on sheet))
+      → first_of (key_file_cases (length (take 32 key_file)) (key_size_on sheet))
+      ≡ first_of (key_file_cases (length key_file) (key_size_on sheet))
   unfolding key_file_cases
   key_file_alike l =
       let m = length-take 32 key_file in
       ap (λ (b : Bool). first_of (when b 1 ∷ []))
-      (same_test (length (take 32 key_file)) (key_size_on sheet) (length key_file) (key_size_on sheet) (λ h. omega arith) (λ h. omega arith))
+      (same_test (length (take 32 key_file)) (key_size_on sheet) (length key_file) (key_size_on sheet) (λ h. omega arith)
+      (λ h. omega arith))
 
   key_alike : (given room : ℕ)
       → first_of (seal_cases (take 32 key_file) tag_key sheet given room) ≡ first_of (seal_cases key_file tag_key sheet given room)
@@ -47,7 +49,8 @@ module _ (key_file tag_key sheet : List ℕ) where
       let s = sheet_positive sheet in
       first_alike (sheet_cases sheet) (sheet_cases sheet) _ _ s s refl
       (λ none.
-      first_alike (key_file_cases (length (take 32 key_file)) (key_size_on sheet)) (key_file_cases (length key_file) (key_size_on sheet)) _ _
+      first_alike (key_file_cases (length (take 32 key_file)) (key_size_on sheet)) (key_file_cases (length key_file) (key_size_on sheet)) _
+      _
       (key_file_positive _ _) (key_file_positive _ _) (key_file_alike (asks none)) (λ z. refl))
 
 pub long_key_file : LongKeyFile
@@ -91,8 +94,10 @@ module _ (key_file tag_key sheet : List ℕ) (given room : ℕ) (l : 33 < length
       let s = sheet_positive sheet in
       let k = key_file_positive (length key_file) (key_size_on sheet) in
       first_alike (sheet_cases sheet) (sheet_cases sheet) _ _ s s refl
-      (λ z. first_alike (key_file_cases (length key_file) (key_size_on sheet)) (key_file_cases (length key_file) (key_size_on sheet)) _ _ k k refl
-      (λ z. first_alike (tag_key_cases (length (take 33 tag_key))) (tag_key_cases (length tag_key)) _ _ (tag_key_positive _) (tag_key_positive _)
+      (λ z. first_alike (key_file_cases (length key_file) (key_size_on sheet)) (key_file_cases (length key_file) (key_size_on sheet)) _ _ k
+      k refl
+      (λ z. first_alike (tag_key_cases (length (take 33 tag_key))) (tag_key_cases (length tag_key)) _ _ (tag_key_positive _)
+      (tag_key_positive _)
       tag_key_alike (λ none. absurd (omega (arith, none, tag_key_alike, tag_key_long (length tag_key) (omega arith))))))
 
   -- both are refused
@@ -157,7 +162,8 @@ module _ (key_file tag_key sheet : List ℕ) where
       let t = tag_key_positive (length tag_key) in
       let l = lines_positive sheet in
       first_alike (sheet_cases sheet) (sheet_cases sheet) _ _ s s refl
-      (λ z. first_alike (key_file_cases (length key_file) (key_size_on sheet)) (key_file_cases (length key_file) (key_size_on sheet)) _ _ k k refl
+      (λ z. first_alike (key_file_cases (length key_file) (key_size_on sheet)) (key_file_cases (length key_file) (key_size_on sheet)) _ _ k
+      k refl
       (λ z. first_alike (tag_key_cases (length tag_key)) (tag_key_cases (length tag_key)) _ _ t t refl
       (λ z. first_alike (lines_cases sheet) (lines_cases sheet) _ _ l l refl
       (λ z. many (length_on (layout_under tag_key) sheet) _ room (bodies_within (layout_under tag_key)) given m))))
@@ -231,7 +237,8 @@ module _ (sheet : List ℕ) (l : 785 < length sheet) where
       let t = tag_key_positive (length tag_key) in
       first_alike (sheet_cases cut) (sheet_cases sheet) _ _ (sheet_positive cut) (sheet_positive sheet) sheet_alike
       (λ z. first_alike (key_file_cases (length key_file) (key_size_on cut)) (key_file_cases (length key_file) (key_size_on sheet)) _ _
-      (key_file_positive _ _) (key_file_positive _ _) (ap (λ (k : ℕ). first_of (key_file_cases (length key_file) (key_size_of k))) first_byte)
+      (key_file_positive _ _) (key_file_positive _ _)
+      (ap (λ (k : ℕ). first_of (key_file_cases (length key_file) (key_size_of k))) first_byte)
       (λ z. first_alike (tag_key_cases (length tag_key)) (tag_key_cases (length tag_key)) _ _ t t refl
       (λ z. rest_nine (layout_under tag_key) cut given room many_lines
       ∙ sym (rest_nine (layout_under tag_key) sheet given room (omega arith)))))

@@ -132,7 +132,8 @@ module _ (key_file tag_key sheet plain : List ℕ) (room : ℕ) (g : SealGood ke
         ap (λ (j : Job). is_job_number j.number) (sym (sealed_job (schedule_of key) sheet plain exact i l))
         ∙ each_at sheet_fine.numeric i inside
 
-    found : (first_of (find_cases key tag_key file (job_number_on sheet i)) ≡ 0) × (index_of (directory_of file) (job_number_on sheet i) ≡ i)
+    found : (first_of (find_cases key tag_key file (job_number_on sheet i)) ≡ 0)
+        × (index_of (directory_of file) (job_number_on sheet i) ≡ i)
     found =
         let within : i < entries (directory_of file) = omega (arith, laid.whole, inside) in
         answer_gives _ _ i (find_bearer key tag_key file (job_number_on sheet i) no_case is_number i within number)
@@ -146,7 +147,8 @@ module _ (key_file tag_key sheet plain : List ℕ) (room : ℕ) (g : SealGood ke
         ∙ (opening_xors (schedule_of key) (archive_number_on sheet) (job_number_on sheet i) (plain_on sheet plain i)).again
 
     long : job_size file (job_number_on sheet i) ≡ length (plain_on sheet plain i)
-    long = ap length sealed_part ∙ (opening_xors (schedule_of key) (archive_number_on sheet) (job_number_on sheet i) (plain_on sheet plain i)).size
+    long = ap length sealed_part ∙ (opening_xors (schedule_of key) (archive_number_on sheet) (job_number_on sheet i)
+        (plain_on sheet plain i)).size
 
     -- a range of it, by any call of opening
     range_opens : (first n : ℕ) (before : List ℕ) (a : Answer) (after : List ℕ) → first + n ≤ length (plain_on sheet plain i)
@@ -195,7 +197,8 @@ module _ (key_file tag_key sheet plain : List ℕ) (room : ℕ) (g : SealGood ke
 pub sealed_opens : SealedOpens
 unfolding written_for
 sealed_opens key_file tag_key sheet plain before n after s =
-    let p = answer_gives (first_of (seal_cases key_file tag_key sheet (length plain) (length before))) (length_on (layout_under tag_key) sheet) n
+    let p = answer_gives (first_of (seal_cases key_file tag_key sheet (length plain) (length before)))
+    (length_on (layout_under tag_key) sheet) n
     (sym s.answered) in
     let g = seal_good key_file tag_key sheet (length plain) (length before) p.0 in
     let file : List ℕ = sealed_file key_file tag_key sheet plain in
@@ -208,7 +211,8 @@ sealed_opens key_file tag_key sheet plain before n after s =
     }
 
 -- whatever was answered: an archive that is given lies within the buffer
-pub seals_fits : (key_file tag_key sheet plain before after : List ℕ) (a : Answer) → Seals key_file tag_key sheet plain before a after → (n : ℕ)
+pub seals_fits : (key_file tag_key sheet plain before after : List ℕ) (a : Answer) → Seals key_file tag_key sheet plain before a after
+    → (n : ℕ)
     → a ≡ gives n → n ≤ length after
 seals_fits key_file tag_key sheet plain before after a s n e =
     let o = sealed_opens key_file tag_key sheet plain before n after

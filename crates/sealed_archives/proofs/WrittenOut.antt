@@ -27,6 +27,7 @@ unfolding length_on
 whole tag_key sheet = ap (λ (n : ℕ). 20 + 16 * lines sheet + asked sheet + n) (tag_length tag_key)
 
 pub seal_written_out : SealWrittenOut
-unfolding seal_cases sheet_cases is_length is_key_length good_key key_size_of key_file_cases tag_key_cases rest_cases lines_cases line_cases ascends_in
+unfolding seal_cases sheet_cases is_length is_key_length good_key key_size_of key_file_cases tag_key_cases rest_cases lines_cases line_cases
+    ascends_in
     length_cases written_out_cases
 seal_written_out key_file tag_key sheet given room = rw (whole tag_key sheet) refl

@@ -10,7 +10,8 @@ use Rattle.sealing.specs.Seal.{Seals}
 -- bytes follow, with the same key file, tag key, plain bytes and buffer: they answer the same, and leave the same in the buffer
 abbrev pub ZeroMeans32 : Type 0
 ZeroMeans32 = (key_file tag_key rest plain before : List ℕ) (a b : Answer) (left right : List ℕ)
-    → Seals key_file tag_key (0 ∷ rest) plain before a left → Seals key_file tag_key (32 ∷ rest) plain before b right → (a ≡ b) × (left ≡ right)
+    → Seals key_file tag_key (0 ∷ rest) plain before a left → Seals key_file tag_key (32 ∷ rest) plain before b right
+    → (a ≡ b) × (left ≡ right)
 
 -- with a sheet that begins with 0 and passes 21, a key file of fewer than 32 bytes, so one of 16 or of 24, gets 1, and the buffer is as it
 -- was, whatever else is handed over

@@ -124,7 +124,8 @@ written_same (refused n) x y before h = refl
 written_same (gives n) x y before h = ap (λ (l : List ℕ). l ++ drop n before) (h n refl)
 
 -- a call that gives bytes has no case
-pub given_good : (key_file tag_key sheet : List ℕ) (given room n : ℕ) (a : Answer) → a ≡ seal_of key_file tag_key sheet given room → a ≡ gives n
+pub given_good : (key_file tag_key sheet : List ℕ) (given room n : ℕ) (a : Answer) → a ≡ seal_of key_file tag_key sheet given room
+    → a ≡ gives n
     → SealGood key_file tag_key sheet given room
 given_good key_file tag_key sheet given room n a e g =
     seal_good key_file tag_key sheet given room (answer_gives _ _ n (sym e ∙ g)).0

@@ -146,7 +146,8 @@ module _ (s : Schedule) (tag_key sheet plain before : List ℕ) where
             ∙ ap (λ (n : ℕ). answer n (length_on (layout_under tag_key) sheet)) (sym pass);
         bytes =
             r.bytes
-            ∙ ap (λ (t : List ℕ). written_for a (front_on 1 s sheet plain ++ t) before) (sym (tag_absent tag_key (front_on 1 s sheet plain) e))
+            ∙ ap (λ (t : List ℕ). written_for a (front_on 1 s sheet plain
+            ++ t) before) (sym (tag_absent tag_key (front_on 1 s sheet plain) e))
             ∙ ap (λ (l : ℕ). written_for a (front_on l s sheet plain ++ tag_bytes tag_key (front_on l s sheet plain)) before) (sym one);
       }
 
@@ -197,7 +198,8 @@ key_taken key_file sheet none enough p r t =
 
 module _ (key_file tag_key sheet plain before : List ℕ) where
   -- the sheet is refused
-  pub sheet_refused : (n : ℕ) → n ≡ first_of (sheet_cases sheet) → (n ≡ 0 → ⊥) → Seals key_file tag_key sheet plain before (refused n) before
+  pub sheet_refused : (n : ℕ) → n ≡ first_of (sheet_cases sheet) → (n ≡ 0 → ⊥)
+      → Seals key_file tag_key sheet plain before (refused n) before
   unfolding written_for seal_cases
   sheet_refused n e h =
       record { answered = ap refused e ∙ sym (answer_first (sheet_cases sheet) _ _ (λ q. h (e ∙ q))); bytes = refl }
@@ -222,7 +224,8 @@ module _ (key_file tag_key sheet plain before : List ℕ) where
         → Seals key_file tag_key sheet plain before a after
     sealed_under enough s a after es u =
         let rest = tag_key_cases (length tag_key) ++ rest_cases (layout_under tag_key) sheet (length plain) (length before) in
-        let pass = first_pass (key_file_cases (length key_file) (key_size_on sheet)) rest (key_file_positive _ _) (key_file_none _ _ enough) in
+        let pass = first_pass (key_file_cases (length key_file) (key_size_on sheet)) rest (key_file_positive _ _) (key_file_none _ _ enough)
+        in
         let answered : a ≡ seal_of key_file tag_key sheet (length plain) (length before) =
         u.answered ∙ ap (λ (n : ℕ). answer n (length_on (layout_under tag_key) sheet)) (sym (asked ∙ pass)) in
         record {

@@ -103,7 +103,8 @@ module _ (s : Schedule) (sheet plain : List ℕ) (exact : sizes_on sheet (lines 
   pub directory_on_lem : (from : ℕ) → directory_on sheet from ≡ directory_from from ks
   unfolding directory_on
   directory_on_lem from =
-      row_same (entry_on sheet from) (λ (i : ℕ). entry_of (job_in ks i).number (start_at from ks i) (length (job_in ks i).body)) (lines sheet)
+      row_same (entry_on sheet from) (λ (i : ℕ). entry_of (job_in ks i).number (start_at from ks i) (length (job_in ks i).body))
+      (lines sheet)
       (λ i l.
       ap₂ (λ (n : List ℕ) (m : ℕ). entry_of n m (size_on sheet i)) (ap (λ (j : Job). j.number) (sym (sealed_job i l)))
       (sym (sealed_start from i (omega arith)))

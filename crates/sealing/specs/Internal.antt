@@ -17,7 +17,8 @@ use Rattle.sealing.specs.Seal.{plain_on, length_on, rest_cases}
 -- ---- what is written, line by line
 
 abbrev pub header_on : ℕ → Schedule → List ℕ → List ℕ
-header_on layout s sheet = header_of layout (key_size_on sheet) (lines sheet) (archive_number_on sheet) (key_check s) (length_on layout sheet)
+header_on layout s sheet = header_of layout (key_size_on sheet) (lines sheet)
+    (archive_number_on sheet) (key_check s) (length_on layout sheet)
 
 -- the entry of line i, the first body starting at `from`, and the directory
 abbrev pub entry_on : List ℕ → ℕ → ℕ → List ℕ
@@ -64,4 +65,5 @@ pub record SealsUnder (s : Schedule) (tag_key sheet plain before : List ℕ) (a 
       ≡ answer (first_of (tag_key_cases (length tag_key) ++ rest_cases (layout_under tag_key) sheet (length plain) (length before)))
       (length_on (layout_under tag_key) sheet)
   pub bytes : after
-      ≡ written_for a (front_on (layout_under tag_key) s sheet plain ++ tag_bytes tag_key (front_on (layout_under tag_key) s sheet plain)) before
+      ≡ written_for a (front_on (layout_under tag_key) s sheet plain
+      ++ tag_bytes tag_key (front_on (layout_under tag_key) s sheet plain)) before

@@ -28,5 +28,6 @@ returns c =
     let e = c.ready.ensures in
     record {
       number = e.0 ∙ sym (rounds_0 s.rounds ((rounds_good _ (sym c.rounds.ensures ∙ c.if-rounds-ne0.false))));
-      schedule = same_schedule _ _ e.1 (e.2 ∙ c.decryption_keys.ensures) ∙ sym (decryption_good s ((rounds_good _ (sym c.rounds.ensures ∙ c.if-rounds-ne0.false))));
+      schedule = same_schedule _ _ e.1 (e.2 ∙ c.decryption_keys.ensures)
+          ∙ sym (decryption_good s ((rounds_good _ (sym c.rounds.ensures ∙ c.if-rounds-ne0.false))));
     }

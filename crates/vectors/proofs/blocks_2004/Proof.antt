@@ -37,4 +37,5 @@ returns c = search rules
 
 pub blocks_2004_spec : {M : Type 1} → statement M
 blocks_2004_spec =
-    tie.close (tie.spec invariant-loop decreases-loop loop-holds byte-2004-requires cast-out array-write-out add-j loop-less loop-again returns)
+    tie.close (tie.spec invariant-loop decreases-loop loop-holds byte-2004-requires cast-out array-write-out add-j loop-less loop-again
+    returns)
