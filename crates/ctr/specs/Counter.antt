@@ -4,7 +4,7 @@
 -- a run may begin at any byte of it (02, f: "the keystream step underneath gets a first byte of its own"). Encryption and decryption are
 -- the one operation.
 -- Assumes nothing.
-use Rattle.std.specs.Prelude.{◌≡◌, List, [], ◌∷◌, ◌++◌, ℕ, suc, ◌+◌, ◌/◌, ◌%◌, get_or}
+use Rattle.std.specs.Prelude.{◌≡◌, List, [], ◌∷◌, ◌++◌, ℕ, suc, ◌/◌, ◌%◌, get_or}
 use Rattle.refusals.specs.Cases.{first_of}
 use Rattle.refusals.specs.Answers.{unless_refused}
 use Rattle.refusals.specs.Shared.{rounds_cases}

@@ -11,7 +11,6 @@ use borrow.Author.Tests.{eqb-true, eqb-false}
 use Rattle.blocks.specs.Runs.{each_block}
 use Rattle.blocks.proofs.Runs.{each_length, each_undo}
 use Rattle.diffusion.proofs.Laws.{diffusion_laws}
-use Rattle.expansion.specs.Outcomes.{number}
 use Rattle.refusals.specs.Shared.{good_rounds}
 use Rattle.circuit.specs.Run.{encrypted, run_number, Ran}
 use Rattle.expansion.specs.Decryption.{decryption_of, Reverses}

@@ -1,6 +1,5 @@
 -- `directory::search` meets its contract: the invariant says that the search ends at no entry before `at`.
 use mathlib.Core.Path.{◌∙◌}
-use mathlib.Core.Bool.{false}
 use native.Mathlib.Omega.{arith}
 use borrow.Author.Count.{below_more}
 use Rattle.directory.proofs.Searching.{read_above, read_not_above, read_bears, goes_on, gone_on}

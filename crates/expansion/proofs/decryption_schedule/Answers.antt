@@ -1,6 +1,6 @@
 -- `expansion::decryption_schedule` meets its contract: the test is that of the definition.
 use mathlib.Core.Path.{◌≡◌, sym, ap, ◌∙◌}
-use mathlib.Core.Bool.{true, false}
+use mathlib.Core.Bool.{false}
 use Rattle.refusals.specs.Shared.{good_rounds}
 use Rattle.refusals.proofs.Shared.{counted, rounds_0, rounds_3, rounds_good, rounds_bad}
 use Rattle.expansion.specs.Outcomes.{number}

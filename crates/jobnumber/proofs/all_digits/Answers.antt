@@ -1,6 +1,5 @@
 -- `jobnumber::all_digits` meets its contract: eight bytes are looked at.
 use Rattle.jobnumber.specs.Number.{digits}
-use borrow.Author.Rules.{rules}
 use Rattle.jobnumber.proofs.all_digits.Goals as goal
 
 pub returns : goal.returns

@@ -2,7 +2,6 @@
 use mathlib.Core.Path.{sym}
 use native.Mathlib.Omega.{arith}
 use Rattle.jobnumber.proofs.Order.{century_old, century_recent}
-use borrow.Author.Rules.{rules}
 use Rattle.jobnumber.proofs.century_of.Goals as goal
 
 pub returns-then-year-lt70 : goal.returns-then-year-lt70

@@ -1,7 +1,6 @@
 -- `jobnumber::is_job_number` meets its contract: the length is tested first, then the digits.
 use borrow.Author.Tests.{eq-eqb, ne_eqb}
 use Rattle.jobnumber.specs.Number.{is_job_number}
-use borrow.Author.Rules.{rules}
 use Rattle.jobnumber.proofs.is_job_number.Goals as goal
 
 pub returns-then-s-ne8 : goal.returns-then-s-ne8

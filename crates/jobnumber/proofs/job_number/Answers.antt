@@ -1,7 +1,6 @@
 -- `jobnumber::job_number` meets its contract: four pairs of digits are eight digits. The equations are named, so that a wrong program is
 -- refused by the one that does not hold.
 use Rattle.jobnumber.proofs.Order.{pairs, pairs_most}
-use borrow.Author.Rules.{rules}
 use Rattle.jobnumber.proofs.job_number.Goals as goal
 
 pub returns : goal.returns

@@ -2,7 +2,6 @@
 use mathlib.Core.Path.{sym, ap₂, ◌∙◌}
 use Prim.Native.Nat.{ℕ, ◌+◌, ◌*◌}
 use Rattle.jobnumber.proofs.Order.{order_century}
-use borrow.Author.Rules.{rules}
 use Rattle.jobnumber.proofs.order_of.Goals as goal
 
 pub returns : goal.returns

@@ -1,7 +1,6 @@
 -- `rotation::byte` meets its contract: the mask 255 gives the remainder by 256.
 use Prim.Native.Nat.{◌/◌, ◌^◌}
 use native.Mathlib.Omega.{arith}
-use borrow.Author.Rules.{rules}
 use lib.Bits.{and_mask, mask_lt}
 use Rattle.rotation.proofs.byte.Goals as goal
 
