@@ -1,6 +1,7 @@
 // Admission: the whole check of an archive under a key and a tag key, with which every call that reads one begins, and the key check, by
 // which it tells the key. Each key is prepared once.
 #![tactic(auto)]
+
 ghost use Rattle.std.specs.Prelude.{◌≡◌, true, [], ◌≤◌, length};
 ghost use Rattle.refusals.specs.Cases.{first_of};
 ghost use Rattle.refusals.specs.Shared.{good_rounds};

@@ -1,6 +1,7 @@
 // The archive: checking it, its directory, finding a job, its sealed body. Each call begins with the whole check of keys and file. No call
 // copies the file.
 #![tactic(auto)]
+
 ghost use Rattle.std.specs.Prelude.{◌≡◌};
 ghost use Rattle.directory.specs.Search.{found_as};
 ghost use Rattle.archive.specs.Check.{check_of, checked_as, GivesDirectory};

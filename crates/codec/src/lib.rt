@@ -1,6 +1,7 @@
 // An archive as its jobs: the header and the entries that are written, and the laws of building an archive of jobs and reading it back.
 // Every call is total.
 #![tactic(auto)]
+
 ghost use Rattle.std.specs.Prelude.{◌≡◌};
 ghost use Rattle.codec.specs.Jobs.{entry_of};
 ghost use Rattle.codec.specs.Archive.{header_of};

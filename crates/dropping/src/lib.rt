@@ -2,6 +2,7 @@
 // back: the header with count and whole length set anew, an entry for each job that is left, their sealed bodies as they are, and the tag
 // of what was written. The preview asks the same, but for the room, and writes the entries alone.
 #![tactic(auto)]
+
 ghost use Rattle.std.specs.Prelude.{◌≡◌, true, false, cond, ◌≤◌, ◌<◌, length, get_or};
 ghost use Rattle.refusals.specs.Shared.{good_rounds};
 ghost use Rattle.octets.specs.Parts.{Lays};

@@ -1,5 +1,6 @@
 // The text that the program `jobs` prints, made in a buffer of its own; of an archive, of a refusal, and of a directory by itself.
 #![tactic(auto)]
+
 ghost use Rattle.std.specs.Prelude.{◌≡◌, [], ◌∷◌, ◌+◌, ◌%◌};
 ghost use Rattle.refusals.specs.Answers.{gives};
 ghost use Rattle.octets.specs.Parts.{Lays};

@@ -1,6 +1,7 @@
 // Opening a job of an archive: a range of it or the whole. Each call begins with the whole check of keys and file, which prepares each key
 // once; then only the blocks of the keystream are made that the range touches.
 #![tactic(auto)]
+
 ghost use Rattle.std.specs.Prelude.{◌≡◌, true, ◌++◌, ◌+◌, ◌≤◌, ltb, length, drop};
 ghost use Rattle.refusals.specs.Shared.{good_rounds};
 ghost use Rattle.ctr.specs.Counter.{keystream, add_stream};

@@ -1,6 +1,7 @@
 // Sealing jobs into an archive: a sheet and plain bodies, under a key and a tag key. All tests come before the first store; then the
 // archive is written from front to back, its bodies encrypted in place.
 #![tactic(auto)]
+
 ghost use Rattle.std.specs.Prelude.{◌≡◌, true, [], ◌++◌, ◌+◌, ◌*◌, ◌≤◌, ◌<◌, length, drop};
 ghost use Rattle.refusals.specs.Cases.{first_of};
 ghost use Rattle.refusals.specs.Shared.{good_rounds};

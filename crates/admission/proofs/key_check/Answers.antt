@@ -1,0 +1,18 @@
+-- `admission::key_check` meets its contract: a run of one block is the block through the cipher, and its first eight bytes are copied.
+use mathlib.Core.Path.{refl, ap, ◌∙◌}
+use mathlib.Core.List.{List}
+use Prim.Native.Nat.{ℕ}
+use native.Mathlib.Omega.{arith}
+use lib.ListN.{replicate}
+use Rattle.octets.specs.Parts.{overwritten}
+use Rattle.octets.proofs.Parts.{overwritten_cut}
+use Rattle.circuit.proofs.Runs.{length_encrypted, one_block}
+use Rattle.admission.specs.Check.{key_check}
+use Rattle.admission.proofs.key_check.Goals as goal
+
+pub returns : goal.returns
+unfolding key_check
+returns c =
+    c.copy.ensures
+    ∙ ap (λ (b : List ℕ). overwritten b (replicate 8 0)) (one_block _ _ _ _ c.requires refl c.run.ensures)
+    ∙ overwritten_cut _ (replicate 8 0) (omega (arith, length_encrypted c.args.schedule (replicate 16 255) refl))

@@ -1,0 +1,14 @@
+-- `dropping::bodies_size` meets its contract: after i turns the bodies left of the first i entries are counted.
+use mathlib.Core.Path.{◌≡◌}
+use Prim.Native.Nat.{◌-◌, ◌*◌, ◌≤◌}
+use lib.ListN.{length}
+use Rattle.header.specs.Fields.{count_of}
+use Rattle.codec.specs.Jobs.{bodies_in}
+use Rattle.dropping.specs.Internal.{left_of}
+use Rattle.dropping.proofs.bodies_size.Given as goal
+
+abbrev pub invariant-loop-i : goal.invariant-loop-i
+invariant-loop-i l = (l.i ≤ count_of l.file) × (l.size ≡ length (bodies_in (left_of l.named l.file l.i))) × (l.size ≤ 65536 * l.i)
+
+abbrev pub decreases-loop-i : goal.decreases-loop-i
+decreases-loop-i l = count_of l.file - l.i
