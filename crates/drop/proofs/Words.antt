@@ -19,14 +19,12 @@ preview_none = refl
 pub preview_no_number : PreviewNoNumber
 preview_no_number word e = ap is_job_number (same_eq word preview_word e) ∙ preview_none
 
-zeros : is_job_number (replicate 8 0) ≡ false
-unfolding is_job_number digits all_below
-zeros = refl
-
 pub own_number : OwnNumber
 unfolding slot_of is_job_number
 own_number word e = rw (both_true (eqb (length word) 8) (digits word) e).0
 
 pub no_number : NoNumber
-unfolding slot_of
-no_number word e = by_test (λ (s : List ℕ). is_job_number s ≡ false) (eqb (length word) 8) e zeros
+unfolding slot_of is_job_number digits all_below
+no_number word e =
+    let zeros : is_job_number (replicate 8 0) ≡ false = refl in
+    by_test (λ (s : List ℕ). is_job_number s ≡ false) (eqb (length word) 8) e zeros

@@ -1,0 +1,17 @@
+-- `seal::main` is safe and ends: what is handed on of the sheet lies within its buffer.
+-- Assumes nothing.
+use mathlib.Core.Path.{sym}
+use native.Mathlib.Omega.{arith}
+use lib.Seq.{length-take-le}
+use Rattle.sheet.proofs.Long.{handed_most}
+use Rattle.seal.proofs.main.Goals as goal
+
+pub slice_bounds-sheet-end : goal.slice_bounds-sheet-end
+slice_bounds-sheet-end c =
+    let read = c.counted_file-counted in
+    omega (arith, read.ensures.filled.same, c.handed_on-n.ensures, handed_most read.result.length read.result.beyond)
+
+pub slice_bounds-seal_sheet-end : goal.slice_bounds-seal_sheet-end
+slice_bounds-seal_sheet-end c =
+    let read = c.counted_file-counted in
+    sym (length-take-le _ _ (omega (arith, read.ensures.filled.same, c.handed_on-n.ensures, handed_most read.result.length read.result.beyond)))
