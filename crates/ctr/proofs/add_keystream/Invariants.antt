@@ -8,7 +8,8 @@ use Rattle.ctr.specs.Counter.{add_stream, keystream}
 use Rattle.ctr.proofs.add_keystream.Given as goal
 
 abbrev pub invariant-loop-at : goal.invariant-loop-at
-invariant-loop-at l = (l.at ≤ length l.initial.run) × (length l.run ≡ length l.initial.run) × (l.offset < 16) × (16 * l.block + l.offset ≡ l.first + l.at)
+invariant-loop-at l = (l.at ≤ length l.initial.run) × (length l.run ≡ length l.initial.run) × (l.offset < 16)
+    × (16 * l.block + l.offset ≡ l.first + l.at)
     × (l.run ≡ filled (add_stream (keystream l.schedule l.prefix) l.first l.initial.run) l.initial.run l.at)
 
 abbrev pub decreases-loop-at : goal.decreases-loop-at

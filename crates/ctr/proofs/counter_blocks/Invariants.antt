@@ -7,7 +7,8 @@ use Rattle.ctr.specs.Internal.{counter_blocks}
 use Rattle.ctr.proofs.counter_blocks.Given as goal
 
 abbrev pub invariant-loop-i : goal.invariant-loop-i
-invariant-loop-i l = (l.i ≤ l.n) × (length l.run ≡ length l.initial.run) × (l.run ≡ counter_blocks l.prefix l.block l.i ++ drop (16 * l.i) l.initial.run)
+invariant-loop-i l = (l.i ≤ l.n) × (length l.run ≡ length l.initial.run)
+    × (l.run ≡ counter_blocks l.prefix l.block l.i ++ drop (16 * l.i) l.initial.run)
 
 abbrev pub decreases-loop-i : goal.decreases-loop-i
 decreases-loop-i l = l.n - l.i

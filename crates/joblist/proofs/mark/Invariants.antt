@@ -10,7 +10,8 @@ use Rattle.joblist.specs.Marks.{named_by}
 use Rattle.joblist.proofs.mark.Given as goal
 
 abbrev pub invariant-loop-k : goal.invariant-loop-k
-invariant-loop-k l = (l.k ≤ numbers l.list) × (length l.list % 8 ≡ 0) × ((j : ℕ) → j < l.k → first_of (number_cases l.file (listed l.list j)) ≡ 0)
+invariant-loop-k l = (l.k ≤ numbers l.list) × (length l.list % 8 ≡ 0)
+    × ((j : ℕ) → j < l.k → first_of (number_cases l.file (listed l.list j)) ≡ 0)
     × ((i : ℕ) → i < 64 → get_or l.named i false ≡ named_by l.file l.list l.k i)
 
 abbrev pub decreases-loop-k : goal.decreases-loop-k

@@ -12,8 +12,12 @@ returns-then-not-is_length c = sym (stop ((sheet_cases c.args.sheet.now)) 0 (ap 
 
 pub returns-then-not-is_key_length : goal.returns-then-not-is_key_length
 unfolding sheet_cases
-returns-then-not-is_key_length c = sym ((skip ((sheet_cases c.args.sheet.now)) 0 (ap not (sym c.is_length.ensures ∙ c.if-not-is_length.false))) ∙ stop ((sheet_cases c.args.sheet.now)) 1 (ap not (sym ((c.is_key_length.ensures ∙ ap is_key_length c.byte_at.ensures.0)) ∙ c.if-not-is_key_length.true)))
+returns-then-not-is_key_length c = sym ((skip ((sheet_cases c.args.sheet.now)) 0 (ap not (sym c.is_length.ensures
+    ∙ c.if-not-is_length.false))) ∙ stop ((sheet_cases c.args.sheet.now)) 1 (ap not (sym ((c.is_key_length.ensures
+    ∙ ap is_key_length c.byte_at.ensures.0)) ∙ c.if-not-is_key_length.true)))
 
 pub returns : goal.returns
 unfolding sheet_cases first_of
-returns c = sym ((skip ((sheet_cases c.args.sheet.now)) 0 (ap not (sym c.is_length.ensures ∙ c.if-not-is_length.false))) ∙ skip ((sheet_cases c.args.sheet.now)) 1 (ap not (sym ((c.is_key_length.ensures ∙ ap is_key_length c.byte_at.ensures.0)) ∙ c.if-not-is_key_length.false)))
+returns c = sym ((skip ((sheet_cases c.args.sheet.now)) 0 (ap not (sym c.is_length.ensures ∙ c.if-not-is_length.false)))
+    ∙ skip ((sheet_cases c.args.sheet.now)) 1 (ap not (sym ((c.is_key_length.ensures ∙ ap is_key_length c.byte_at.ensures.0))
+    ∙ c.if-not-is_key_length.false)))
