@@ -1,5 +1,5 @@
-//! Links the proved library, which `rt staticlib aria` writes at the repository's top, and tells the
-//! bench whether its own, which `rt staticlib benchlib` writes, is there too. A build for another
+//! Links the proved library, which `tools/build.sh aria_c` writes at the repository's top, and tells the
+//! bench whether its own, which `tools/build.sh benchlib` writes, is there too. A build for another
 //! machine than the library's ends here, with the reason.
 
 use std::env;
@@ -25,7 +25,7 @@ fn main() {
     println!("cargo:rerun-if-changed={}", folder.display());
     if !library.exists() {
         eprintln!("{} is missing.", library.display());
-        eprintln!("Run `rt staticlib aria` in {} first.", top.display());
+        eprintln!("Run `tools/build.sh aria_c` in {} first.", top.display());
         process::exit(1);
     }
     println!("cargo:rustc-link-search=native={}", folder.display());

@@ -2,8 +2,8 @@
  * The ARIA block cipher (RFC 5794) on runs of blocks, and CMAC (NIST SP 800-38B) with it, for C and
  * C++ on x86-64 Linux.
  *
- * Link target/staticlib/libaria.a, which `rt staticlib aria` proves and writes. Of the C library it
- * needs memcpy and memset and nothing else; a freestanding program supplies these two. How to link
+ * Link target/staticlib/libaria.a, which `tools/build.sh aria_c` proves and writes. Of the C library
+ * it needs memcpy and memset and nothing else; a freestanding program supplies these two. How to link
  * it, also as a shared library and by pkg-config, is in docs/LINKING.md.
  *
  * A block is 16 bytes. aria_run_plain and aria_run_tables encrypt or decrypt each block of a run on

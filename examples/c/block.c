@@ -1,7 +1,7 @@
 /*
  * Encrypts and decrypts one block by both engines: the vector of RFC 5794, A.1. Then it shows a refusal.
  *
- * From the repository's top, after `rt staticlib aria`:
+ * From the repository's top, after `tools/build.sh aria_c`:
  *
  *   cc -Iinclude examples/c/block.c target/staticlib/libaria.a -o target/block && target/block
  *

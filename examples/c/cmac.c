@@ -2,7 +2,7 @@
  * Makes the tag of a message by CMAC and verifies it; then sees that another message does not pass
  * for it, and shows a refusal.
  *
- * From the repository's top, after `rt staticlib aria`:
+ * From the repository's top, after `tools/build.sh aria_c`:
  *
  *   cc -Iinclude examples/c/cmac.c target/staticlib/libaria.a -o target/cmac && target/cmac
  *

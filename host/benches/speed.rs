@@ -3,7 +3,7 @@
 //!
 //! Block runs and CMAC are those of the package. Counter mode and the archive are not among its
 //! calls, so they come from a library for the bench and the tests alone, which
-//! `rt staticlib benchlib` writes.
+//! `tools/build.sh benchlib` writes.
 //!
 //! Each figure is the best of several rounds, the engines taking turns within a round so that a slow
 //! spell of the machine meets all of them. Time is the thread's CPU time. Every call prepares its key,
@@ -31,7 +31,7 @@ const PREFIX: [u8; 12] = *b"twelve bytes";
 /// build.rs sets it where the library is there.
 const _: &str = env!(
     "ARIA_BENCHLIB",
-    "target/staticlib/libbenchlib.a is missing: run `rt staticlib benchlib` at the repository's top first"
+    "target/staticlib/libbenchlib.a is missing: run `tools/build.sh benchlib` at the repository's top first"
 );
 
 #[link(name = "benchlib", kind = "static")]

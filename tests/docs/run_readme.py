@@ -190,7 +190,7 @@ def main():
     for at, (kind, body) in enumerate(blocks):
         following = blocks[at + 1][1] if blocks[at + 1 : at + 2] and blocks[at + 1][0] == "text" else None
         with tempfile.TemporaryDirectory(prefix="readme-") as scratch:
-            if kind == "sh" and body.startswith(("rt check ", "rt staticlib ")):
+            if kind == "sh" and body.startswith("tools/build.sh "):
                 at_top(body, following)
                 if "> new.bin" in body:
                     sealing_recipe(body, scratch)
@@ -206,7 +206,7 @@ def main():
                 rust_program(body, dependency, PRINTS.search(text).group(1), scratch)
             elif kind not in ("text", "toml"):
                 sys.exit("README.md: no check here runs\n%s" % body)
-            if following and not body.startswith("rt "):
+            if following and not body.startswith("tools/build.sh "):
                 sys.exit("README.md: nothing here compares what follows\n%s" % body)
             tried += kind in ("sh", "rust")
     print("README.md: %d commands and examples do what it says, the refusals stand in order" % tried)

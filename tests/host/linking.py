@@ -2,7 +2,7 @@
 
     python3 tests/host/linking.py
 
-It needs target/staticlib/libaria.a, which `rt staticlib aria` writes, and a C compiler. What needs
+It needs target/staticlib/libaria.a, which `tools/build.sh aria_c` writes, and a C compiler. What needs
 pkg-config or a C++ compiler is left out where that is missing, and the last line says so. It writes
 below target/ alone.
 """
@@ -77,7 +77,7 @@ def files():
 
 def main():
     if not os.path.isfile(os.path.join(TOP, "target", "staticlib", "libaria.a")):
-        sys.exit("target/staticlib/libaria.a is missing: run `rt staticlib aria` at the repository's top first")
+        sys.exit("target/staticlib/libaria.a is missing: run `tools/build.sh aria_c` at the repository's top first")
     missing = [tool for tool in ("pkg-config", "c++") if not shutil.which(tool)]
     before = set(files())
     shutil.rmtree(os.path.join(TOP, PREFIX), ignore_errors=True)

@@ -1,5 +1,5 @@
-"""Calls what `rt staticlib benchlib` exports, in this process, through a shared library made of it. For ranges.py, sealing.py, dropping.py,
-previewing.py.
+"""Calls what the static library `benchlib` exports, in this process, through a shared library made of it. For ranges.py, sealing.py,
+dropping.py, previewing.py.
 
 Buffers begin at every place in memory modulo 16, and bytes before and behind them, which nobody lent, are watched.
 """
@@ -91,7 +91,7 @@ def loaded():
     process with the place in the test's file."""
     path = os.path.abspath(sys.argv[1] if len(sys.argv) > 1 else LIBRARY)
     if not os.path.isfile(path):
-        sys.exit("%s is missing: rt staticlib benchlib" % path)
+        sys.exit("%s is missing: tools/build.sh benchlib" % path)
     faulthandler.enable()
     faulthandler.dump_traceback_later(PATIENCE, exit=True)
     with tempfile.TemporaryDirectory(prefix="benchlib-") as folder:

@@ -2,7 +2,7 @@
 
     python3 tests/model/ranges.py [target/staticlib/libbenchlib.a]
 
-The calls are those that `rt staticlib benchlib` exports; a shared library is made of it, and called in this process. Of each call the
+The calls are those that the static library `benchlib` exports; a shared library is made of it, and called in this process. Of each call the
 number is compared, every byte of the buffer, and bytes before and behind it, which nobody lent; the buffers begin at every place in
 memory modulo 16. How many bytes an opening counts these calls do not tell; the program `open` and `known_answers` show it. A tagged
 archive is checked with each of its bytes changed to each other value, and with each cut. The last line is `archive ranges: N calls agree`,
