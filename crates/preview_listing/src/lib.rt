@@ -1,5 +1,6 @@
 // The listing of what dropping would leave, for `drop --preview`: made of the preview's directory, so that no archive is written.
 #![tactic(auto)]
+
 ghost use Rattle.preview_listing.specs.Text.{ListsLeft};
 
 use listing::Listing;
