@@ -43,7 +43,7 @@ entries_left named file = directory_from (20 + 16 * length (left_all named file)
 unfoldable pub front_left : List Bool → List ℕ → List ℕ
 front_left named file =
     header_left file (length (left_all named file)) (whole_length (layout_of file) (left_all named file))
-    ++ (entries_left named file ++ bodies_in (left_all named file))
+    ++ (directory_from (20 + 16 * length (left_all named file)) (left_all named file) ++ bodies_in (left_all named file))
 
 -- the tag of bytes, in a file of a layout, under the tag key's schedule
 unfoldable pub tag_in : Schedule → ℕ → List ℕ → List ℕ

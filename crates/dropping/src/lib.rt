@@ -9,6 +9,7 @@ ghost use Rattle.octets.specs.Parts.{Lays};
 ghost use Rattle.header.specs.Fields.{layout_of, count_of, directory_of};
 ghost use Rattle.directory.specs.Entries.{entry_at, number_of};
 ghost use Rattle.codec.specs.Jobs.{directory_from, bodies_in};
+ghost use Rattle.codec.specs.Archive.{whole_length};
 ghost use Rattle.dropping.specs.Drop.{dropped_as, Drops};
 ghost use Rattle.dropping.specs.Preview.{Previews};
 ghost use Rattle.dropping.specs.Internal.{
@@ -222,7 +223,7 @@ fn header_left(file: &[u8], count: usize, whole: usize) -> [u8; 20]
 // Puts header, directory and bodies of the jobs that are left, `count` of them in an archive of `whole` bytes.
 fn put_front(out: &mut [u8], file: &[u8], named: [bool; 64], count: usize, whole: usize) -> usize
     requires { (count ≡ length (left_all named file.now)) × (count ≤ 64)
-        × (whole ≡ whole_left named file.now) × Whole file.now }
+        × (whole ≡ whole_length (layout_of file.now) (left_all named file.now)) × Whole file.now }
     ensures { Lays out.old 0 (front_left named file.now) result out.new }
 {
     let first = octets::put(out, 0, &header_left(file, count, whole));
