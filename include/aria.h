@@ -15,12 +15,12 @@
  * call prepares its key anew, which takes as long as several blocks do, so hand over long runs.
  * aria_run_tables also makes larger tables first, and then takes less time for a block: it is
  * faster from about four blocks on (where the two cross varies between one block and ten), and on
- * long runs takes two thirds of the time. On fewer blocks aria_run_plain is faster. The calls of
- * CMAC make these tables too.
+ * long runs takes two thirds of the time. On fewer blocks aria_run_plain is faster. So it was with
+ * the toolchain before today's. The calls of CMAC make these tables too.
  *
  * A call keeps no state, allocates nothing and may be made from several threads at once, as long as
  * no other thread writes what it was handed, or touches what it writes, meanwhile. It takes about
- * 6 KiB of stack (plain) or 18 KiB (tables, CMAC). Its time may depend on the key and on the bytes,
+ * 8 KiB of stack (plain) or 18 KiB (tables, CMAC). Its time may depend on the key and on the bytes,
  * by way of the processor's cache.
  */
 #ifndef ARIA_H

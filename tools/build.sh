@@ -51,7 +51,8 @@ build() {
     elif [ "$made" = "target/bin/$name" ]; then
         (cd "crates/$name" && rt run </dev/null >/dev/null)
     else
-        (cd "crates/$name" && rt lib </dev/null >&2)
+        # without it rt's code needs SSE4.2, and a static library does not look
+        (cd "crates/$name" && rt lib --cpu x86-64 </dev/null >&2)
     fi
     mkdir -p target/built "$(dirname "$made")"
     install -m "$mode" "$from" "$made"
