@@ -13,8 +13,7 @@ A row is `| promise | name | definition | proof |`, with paths from crates/. The
 
 That the proofs hold is for rt to say: it refuses a file that it does not prove. Whether a contract is
 strong enough is for its reader, and for the must-fail edits. Beside the rows, every public function
-must have an `ensures` and no `requires`, but for those that lend nothing to be written and answer what
-the operating system chooses, of which no contract can say anything: these few may lack an `ensures`.
+must have an `ensures` and no `requires`.
 """
 
 import glob
@@ -28,7 +27,6 @@ THEOREM = re.compile(r"`([\w-]+) : ([^`]+)`")
 CONTRACT = re.compile(r"`(\S+)` of `(\w+)::(\w+)`")
 HEAD = re.compile(r'^ *((?:pub )?(?:extern "C" )?fn (\w+).*?)\{$', re.M | re.S)
 MADE = "made by the prover"
-CHOSEN = {"inputs::at_terminal", "inputs::word_count", "outputs::write_all"}
 # What may be written of a function's proof.
 PARTS = ("Proof.antt", "Invariants.antt", "Answers.antt")
 
@@ -123,8 +121,7 @@ def call_faults():
         if public != sum(head.startswith("pub ") for _, head in heads(crate)):
             yield "%s has a public function in a layout that is not read here" % crate
         for function, head in heads(crate):
-            chosen = "%s::%s" % (crate, function) in CHOSEN and "&mut" not in head
-            if head.count("fn ") > 1 or head.startswith("pub ") and ("requires" in head or "ensures" not in head and not chosen):
+            if head.count("fn ") > 1 or head.startswith("pub ") and ("requires" in head or "ensures" not in head):
                 yield "%s::%s is public, and has a requires or no ensures" % (crate, function)
 
 

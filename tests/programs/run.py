@@ -91,9 +91,8 @@ DROP = Says(
     b"drop: could not read\n",
     b"drop: could not write\n",
     b"usage: drop NUMBER.. < ARCHIVE > SMALLER\n"
-    b"       drop --preview NUMBER.. < ARCHIVE\n"
     b"drops these jobs, 1 to 64 numbers of eight digits, and writes the archive without them, "
-    b"under key.bin and, if there, tag.bin; --preview lists what would be left and writes no archive\n",
+    b"under key.bin and, if there, tag.bin\n",
     ARCHIVE,
 )
 # The same program, asked to drop all jobs, and one of them twice.

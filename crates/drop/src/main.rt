@@ -7,19 +7,15 @@ ghost use Rattle.std.specs.Prelude.{◌≡◌, ◌≤◌};
 ghost use Rattle.drop.specs.Words.{asks_preview, words_before, slot_of};
 
 use dropping::Dropped;
+use std::io::IsTerminal;
 
 fn print_usage(rt: &HostRuntime) {
     outputs::write_all(&rt.stderr(), b"usage: drop NUMBER.. < ARCHIVE > SMALLER\n");
-    outputs::write_all(&rt.stderr(), b"       drop --preview NUMBER.. < ARCHIVE\n");
     outputs::write_all(
         &rt.stderr(),
         b"drops these jobs, 1 to 64 numbers of eight digits, and writes the archive without them, ",
     );
-    outputs::write_all(&rt.stderr(), b"under key.bin and, if there, tag.bin; ");
-    outputs::write_all(
-        &rt.stderr(),
-        b"--preview lists what would be left and writes no archive\n",
-    );
+    outputs::write_all(&rt.stderr(), b"under key.bin and, if there, tag.bin\n");
 }
 
 // Writes the line of a refusal.
@@ -63,7 +59,7 @@ fn print_preview(rt: &HostRuntime, key: &[u8], tag_key: &[u8], file: &[u8], list
 // Reads the keys and the archive, and drops the jobs of the list, or shows what that would leave.
 fn drop_listed(rt: &HostRuntime, preview: bool, list: &[u8]) {
     // a hint for who waits at a terminal; it changes nothing that follows
-    if inputs::at_terminal(rt) {
+    if rt.stdin().is_terminal() {
         print_usage(rt);
     }
     // one byte more than the longest key, so that a file which is longer, or cannot be read, is no key
@@ -131,7 +127,7 @@ fn slot_at(rt: &HostRuntime, i: usize) -> [u8; 8] {
 }
 
 // Puts so many words from word `first` on into the list, eight bytes each.
-fn fill(rt: &HostRuntime, list: &mut [u8], first: usize, words: usize)
+fn fill_from(rt: &HostRuntime, list: &mut [u8], first: usize, words: usize)
     requires { (first ≤ 2) × (words ≤ 64) }
 {
     let mut k: usize = 0;
@@ -139,6 +135,13 @@ fn fill(rt: &HostRuntime, list: &mut [u8], first: usize, words: usize)
         octets::put(list, 8 * k, &slot_at(rt, first + k));
         k += 1;
     }
+}
+
+// Puts the words from the first on into the list, eight bytes each.
+fn fill(rt: &HostRuntime, list: &mut [u8], words: usize)
+    requires { words ≤ 64 }
+{
+    fill_from(rt, list, 1, words);
 }
 
 fn main(rt: HostRuntime) {
@@ -158,6 +161,10 @@ fn main(rt: HostRuntime) {
     }
     let mut list = [0u8; 512];
     let end = 8 * words;
-    fill(&rt, &mut list, first, words);
+    if preview {
+        fill_from(&rt, &mut list, first, words);
+    } else {
+        fill(&rt, &mut list, words);
+    }
     drop_listed(&rt, preview, &list[..end]);
 }

@@ -2,12 +2,12 @@
 // the input.
 #![tactic(auto)]
 
-ghost use Rattle.std.specs.Prelude.{◌≡◌, ◌≤◌, ◌<◌, min, length};
+ghost use Rattle.std.specs.Prelude.{◌≡◌, ◌^◌, ◌≤◌, ◌<◌, min, length};
 ghost use Rattle.std.specs.Io.{ReadsAtMost};
 ghost use Rattle.inputs.specs.Filled.{IsPrefixLen, Filled, FailsShort, Beyond};
 
 use std::env::FillError;
-use std::io::{Error, ErrorKind, IsTerminal, Read};
+use std::io::{Error, ErrorKind, Read};
 use std::rt::{Env, Files};
 use std::{fs, io, str};
 
@@ -150,11 +150,6 @@ pub fn standard_input(rt: &HostRuntime, buf: &mut [u8]) -> Input
     }
     let failed = input.failed;
     Input { length, failed }
-}
-
-// Whether standard input is a terminal.
-pub fn at_terminal(rt: &HostRuntime) -> bool {
-    rt.stdin().is_terminal()
 }
 
 // Opens a file to read it. A path of the standard library is UTF-8: a name that is not cannot be opened.
@@ -302,8 +297,10 @@ fn has_word<E: Env>(rt: &E, i: usize) -> bool {
     }
 }
 
-// How many words the program was started with, its own name among them.
-pub fn word_count<E: Env>(rt: &E) -> usize {
+// How many words the program was started with, its own name among them: the operating system's choice.
+pub fn word_count<E: Env>(rt: &E) -> usize
+    ensures { result < 2 ^ 64 }
+{
     for i in 0..usize::MAX {
         if !has_word(rt, i) {
             return i;

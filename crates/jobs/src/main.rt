@@ -2,6 +2,8 @@
 // the line of a refusal, and else nothing: what goes wrong outside the archive is said on standard error.
 #![tactic(auto)]
 
+use std::io::IsTerminal;
+
 fn print_usage(rt: &HostRuntime) {
     outputs::write_all(&rt.stderr(), b"usage: jobs < ARCHIVE\n");
     outputs::write_all(
@@ -15,7 +17,7 @@ fn hint(rt: &HostRuntime) {
     if inputs::word_count(rt) > 1 {
         return print_usage(rt);
     }
-    if inputs::at_terminal(rt) {
+    if rt.stdin().is_terminal() {
         print_usage(rt);
     }
 }

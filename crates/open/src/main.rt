@@ -8,6 +8,7 @@ ghost use Rattle.open.specs.Asked.{first_in, count_in};
 
 use decimal::Decimal;
 use opening::Opened;
+use std::io::IsTerminal;
 
 // What is asked for of a job.
 #[derive(Drop)]
@@ -101,7 +102,7 @@ fn open_job(rt: &HostRuntime, number: &[u8], asked: Asked) {
 // Opens the job that the first word names.
 fn open_named(rt: &HostRuntime, asked: Asked) {
     // a hint for who waits at a terminal; it changes nothing that follows
-    if inputs::at_terminal(rt) {
+    if rt.stdin().is_terminal() {
         print_usage(rt);
     }
     // one byte more than a job number: a word that does not fit counts as empty, which is no job number either

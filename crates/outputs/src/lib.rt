@@ -1,7 +1,7 @@
 // What the programs write: bytes to a stream.
 #![tactic(auto)]
 
-ghost use Rattle.std.specs.Prelude.{◌≤◌, length};
+ghost use Rattle.std.specs.Prelude.{◌≡◌, ◌≤◌, IsTrue, length};
 
 use std::io::Print;
 
@@ -17,7 +17,9 @@ fn write_once(to: &impl Print, bytes: &[u8]) -> usize
 
 // Writes all of the bytes and answers true, or stops at the first write that takes nothing or fails and answers false, when some of the
 // bytes may have been written. Of no bytes it makes no call.
-pub fn write_all(to: &impl Print, bytes: &[u8]) -> bool {
+pub fn write_all(to: &impl Print, bytes: &[u8]) -> bool
+    ensures { length bytes.now ≡ 0 → IsTrue result }
+{
     let mut done: usize = 0;
     while done < bytes.len() {
         let n = write_once(to, &bytes[done..]);

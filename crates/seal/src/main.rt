@@ -6,6 +6,7 @@
 ghost use Rattle.std.specs.Prelude.{◌≤◌};
 
 use sealing::Sealed;
+use std::io::IsTerminal;
 
 fn print_usage(rt: &HostRuntime) {
     outputs::write_all(&rt.stderr(), b"usage: seal < PLAIN > ARCHIVE\n");
@@ -24,7 +25,7 @@ fn hint(rt: &HostRuntime) {
     if inputs::word_count(rt) > 1 {
         return print_usage(rt);
     }
-    if inputs::at_terminal(rt) {
+    if rt.stdin().is_terminal() {
         print_usage(rt);
     }
 }

@@ -1,6 +1,6 @@
--- `drop::fill` is safe and ends.
+-- `drop::fill_from` is safe and ends.
 use Prim.Native.Nat.{◌-◌, ◌≤◌}
-use Rattle.drop.proofs.fill.Given as goal
+use Rattle.drop.proofs.fill_from.Given as goal
 
 abbrev pub invariant-loop-k : goal.invariant-loop-k
 invariant-loop-k l = l.k ≤ l.words
