@@ -34,9 +34,9 @@ static_libraries() {
 # rt's words go to standard error, and so do those of a program; its output is not shown.
 build() {
     local name=$1 made from mode
-    if programs | grep -qx "$name"; then
+    if [ -e "crates/$name/src/main.rt" ]; then
         made=target/bin/$name from=crates/$name/out/$name mode=755
-    elif static_libraries | grep -qx "$name"; then
+    elif grep -q "^$name staticlib\b" crates.txt; then
         made=target/staticlib/lib${name%_c}.a from=crates/$name/out/lib$name.a mode=644
     else
         echo "crates.txt has no program and no static library $name" >&2

@@ -109,7 +109,7 @@ TRIES = 1000
 # How many seconds a terminal is waited for.
 PATIENCE = 10
 # Why a file that is there may not be opened.
-NOT_OPENED = (errno.EACCES, errno.EINTR, errno.EIO, errno.EMFILE, errno.ENFILE, errno.ENOTDIR, errno.EPERM)
+NOT_OPENED = (errno.EACCES, errno.EIO, errno.EMFILE, errno.ENFILE, errno.ENOTDIR, errno.EPERM)
 
 
 # Programs that keep standard output for what was asked of them, and write a refusal's line to standard error.
@@ -390,6 +390,9 @@ def tag_files(says):
         ("tag.bin in two pieces", ("read", "tag.bin", 16, 0, 1)),
         ("tag.bin broken off once", ("read", "tag.bin", 16, errno.EINTR, 1)),
         ("tag.bin broken off often", ("read", "tag.bin", 16, errno.EINTR, TRIES - 1)),
+        # the toolchain's library tries an opening again
+        ("the opening of tag.bin broken off once", ("open", "tag.bin", 0, errno.EINTR, 1)),
+        ("the opening of tag.bin broken off often", ("open", "tag.bin", 0, errno.EINTR, 2 * TRIES)),
     ):
         for layout, expected in under.items():
             yield "%s, layout %d" % (name, layout), expected, on(layout, right, fault)
@@ -451,6 +454,10 @@ def sheet_files(says):
         f.put("sheet.bin", None)
         return f.run(says.words)
 
+    for times in (1, 2 * TRIES):
+        yield "the opening of sheet.bin broken off, %d times" % times, good, (
+            lambda f, times=times: f.run(says.words, fault=("open", "sheet.bin", 0, errno.EINTR, times))
+        )
     # at every byte, the ends of its front and of its lines among them
     for after in range(len(sheet) + 1):
         yield "sheet.bin error after %d bytes" % after, failed, broken(after, errno.EIO)

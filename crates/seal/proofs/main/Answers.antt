@@ -14,4 +14,9 @@ slice_bounds-sheet-end c =
 pub slice_bounds-seal_sheet-end : goal.slice_bounds-seal_sheet-end
 slice_bounds-seal_sheet-end c =
     let read = c.counted_file-counted in
-    sym (length-take-le _ _ (omega (arith, read.ensures.filled.same, c.handed_on-n.ensures, handed_most read.result.length read.result.beyond)))
+    sym (length-take-le _ _ (omega (
+      arith,
+      read.ensures.filled.same,
+      c.handed_on-n.ensures,
+      handed_most read.result.length read.result.beyond,
+    )))
