@@ -74,16 +74,7 @@ module _ (named : List Bool) (file : List ℕ) (whole : Whole file) where
 
   pub front_length : length (front_left named file) + tag_size (layout_of file) ≡ whole_left named file
   unfolding front_left whole_length
-  front_length =
-      let d : List ℕ = directory_from (20 + 16 * length js) js in
-      let h : List ℕ = header_left file (length js) (whole_left named file) in
-      omega (
-        arith,
-        length-append h (d ++ bodies_in js),
-        length-append d (bodies_in js),
-        twenty (length js) (whole_left named file),
-        directory_sixteen,
-      )
+  front_length = simp (length-append, twenty) (omega (arith, directory_sixteen))
 
 -- ---- writing all but the tag
 

@@ -34,7 +34,9 @@ module _ (file list : List ℕ) where
   unfolding list_cases number_cases search_cases lacks
   list_lacks m e =
       let r = both_true (not (eqb 27 m)) _ e in
-      rw r.0 (items_lacks m _ (numbers list) (λ k. r.1))
+      let s = both_true (not (eqb 18 m)) _ r.1 in
+      let t = both_true (not (eqb 19 m)) _ s.1 in
+      simp (r.0, s.0, t.0) (items_lacks m _ (numbers list) (λ k. r.1))
 
   -- the list is not a multiple of 8 bytes
   pub list_27 : (length list % 8 ≡ 0 → ⊥) → 27 ≡ first_of (list_cases file list)
