@@ -15,7 +15,7 @@ use expansion::Outcome;
 use octets::part;
 
 // What the whole check comes to: a refusal's number or 0, the schedule of the key and that of the tag key.
-#[derive(Drop)]
+#[derive(Clone, Copy)]
 pub struct Admitted {
     pub number: u32,
     pub schedule: Schedule,

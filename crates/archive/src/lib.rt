@@ -11,7 +11,7 @@ use directory::Found;
 use octets::part;
 
 // Checking's answer: the job count, or a refusal's number.
-#[derive(Drop)]
+#[derive(Clone, Copy)]
 pub enum Checked {
     Jobs(usize),
     Refused(u32),

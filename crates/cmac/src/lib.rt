@@ -12,7 +12,7 @@ use circuit::Schedule;
 use expansion::Outcome;
 
 // An outcome, and beside it the tag: sixteen zero bytes where the outcome is a refusal.
-#[derive(Drop)]
+#[derive(Clone, Copy)]
 pub struct Tagged {
     pub outcome: Outcome,
     pub tag: [u8; 16],
@@ -21,7 +21,7 @@ pub struct Tagged {
 // A comparison's answer, the standard's VALID and INVALID (02's yes and no), or a refusal. The papers' numbers are given by
 // `verdict_number`
 // of specs/.
-#[derive(Drop)]
+#[derive(Clone, Copy)]
 pub enum Verdict {
     Valid,
     Invalid,

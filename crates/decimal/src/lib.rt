@@ -9,7 +9,7 @@ ghost use Rattle.decimal.specs.Internal.{ReadsDigits};
 use octets::byte_at;
 
 // What a word is read as: whether it is a number, and which; 0 where it is none.
-#[derive(Drop)]
+#[derive(Clone, Copy)]
 pub struct Decimal {
     pub good: bool,
     pub value: usize,

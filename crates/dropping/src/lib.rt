@@ -28,7 +28,7 @@ ghost use Rattle.dropping.specs.Internal.{
 use circuit::Schedule;
 
 // Dropping's answer: how many bytes the new archive has, or a refusal's number.
-#[derive(Drop)]
+#[derive(Clone, Copy)]
 pub enum Dropped {
     Bytes(usize),
     Refused(u32),
@@ -36,7 +36,7 @@ pub enum Dropped {
 
 // The preview's answer: a refusal's number or 0, and how many jobs and how many bytes the new archive would have; beside a refusal both
 // are 0.
-#[derive(Drop)]
+#[derive(Clone, Copy)]
 pub struct Previewed {
     pub number: u32,
     pub count: usize,

@@ -10,7 +10,7 @@ ghost use Rattle.expansion.specs.Decryption.{decryption_key, decryption_keys, Re
 use circuit::Schedule;
 
 // What a preparation came to. 01's numbers are given by `number` of specs/.
-#[derive(Drop)]
+#[derive(Clone, Copy)]
 pub enum Outcome {
     Ready,
     KeyLength,
@@ -18,7 +18,7 @@ pub enum Outcome {
 }
 
 // An outcome, and beside it the schedule: of no rounds and zero keys where the outcome is a refusal.
-#[derive(Drop)]
+#[derive(Clone, Copy)]
 pub struct Prepared {
     pub outcome: Outcome,
     pub schedule: Schedule,

@@ -12,7 +12,7 @@ use std::rt::{Env, Files};
 use std::{fs, io, str};
 
 // How many bytes were read, and whether a read failed. Within what the contracts say, both are the operating system's choice.
-#[derive(Drop)]
+#[derive(Clone, Copy)]
 pub struct Input {
     pub length: usize,
     pub failed: bool,
@@ -211,7 +211,7 @@ pub fn named_file<R: Files>(rt: &R, name: &[u8], buf: &mut [u8]) -> usize
 }
 
 // What was read of a file: its first bytes, how many more it has, by the remainder modulo 12, and whether a read failed.
-#[derive(Drop)]
+#[derive(Clone, Copy)]
 pub struct Counted {
     pub length: usize,
     pub beyond: usize,

@@ -11,7 +11,7 @@ use directory::Found;
 use octets::part;
 
 // What a list comes to: a refusal's number or 0, and of each entry whether the list names it.
-#[derive(Drop)]
+#[derive(Clone, Copy)]
 pub struct Marks {
     pub number: u32,
     pub named: [bool; 64],

@@ -24,7 +24,7 @@ use archive::Checked;
 use octets::{part, put, u32_at};
 
 // A text at the front of a buffer, with zeros behind it: room for a first line of 8 bytes and 64 lines of 21, and no listing is longer.
-#[derive(Drop)]
+#[derive(Clone, Copy)]
 pub struct Listing {
     pub length: usize,
     pub text: [u8; 1352],

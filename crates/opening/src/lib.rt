@@ -13,7 +13,7 @@ use directory::Found;
 use octets::part;
 
 // Opening's answer: how many plain bytes were written, or a refusal's number.
-#[derive(Drop)]
+#[derive(Clone, Copy)]
 pub enum Opened {
     Bytes(usize),
     Refused(u32),

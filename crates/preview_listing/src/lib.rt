@@ -6,7 +6,7 @@ ghost use Rattle.preview_listing.specs.Text.{ListsLeft};
 use listing::Listing;
 
 // A refusal's number or 0, and the text: what `jobs` would print of the new archive, or the line of the refusal.
-#[derive(Drop)]
+#[derive(Clone, Copy)]
 pub struct LeftListing {
     pub number: u32,
     pub listing: Listing,

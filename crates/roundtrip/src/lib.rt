@@ -7,14 +7,14 @@ ghost use Rattle.roundtrip.specs.RoundTrip.{RoundTripped};
 use circuit::Schedule;
 
 // The engines; 01 calls them paths.
-#[derive(Drop)]
+#[derive(Clone, Copy)]
 pub enum Engine {
     Plain,
     Tables,
 }
 
 // What the three calls answered, in their order.
-#[derive(Drop)]
+#[derive(Clone, Copy)]
 pub struct Numbers {
     pub first: u32,
     pub reversed: u32,

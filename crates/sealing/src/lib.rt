@@ -16,7 +16,7 @@ use circuit::Schedule;
 use expansion::Outcome;
 
 // Sealing's answer: how many bytes the archive has, or a refusal's number.
-#[derive(Drop)]
+#[derive(Clone, Copy)]
 pub enum Sealed {
     Bytes(usize),
     Refused(u32),

@@ -72,9 +72,9 @@ pub returns-then-u32_at-len : goal.returns-then-u32_at-len
 unfolding field_cases
 returns-then-u32_at-len c =
     let a = c.args in
+    let few_at_10 : count_of a.file.now ≤ 64 = rw (← c.count.ensures.0) c.if-count-gt64.false in
     sym
-    (past2 a.keysize a.check a.file.now (sym c.byte_at.ensures.0 ∙ c.if-byte_at-keysize.false)
-    (rw (← c.count.ensures.0) c.if-count-gt64.false)
+    (past2 a.keysize a.check a.file.now (sym c.byte_at.ensures.0 ∙ c.if-byte_at-keysize.false) few_at_10
     ∙ stop (field_cases a.keysize a.check a.file.now) 2
     (ap not (ne_eqb _ _ (λ q. c.if-u32_at-len.true (c.u32_at.ensures.0 ∙ q)))))
 
@@ -82,9 +82,10 @@ pub returns-then-len-least_length : goal.returns-then-len-least_length
 unfolding field_cases
 returns-then-len-least_length c =
     let a = c.args in
+    let few_at_11 : count_of a.file.now ≤ 64 = rw (← c.count.ensures.0) c.if-count-gt64.false in
     sym
-    (past3 a.keysize a.check a.file.now (sym c.byte_at.ensures.0 ∙ c.if-byte_at-keysize.false)
-    (rw (← c.count.ensures.0) c.if-count-gt64.false) (sym c.u32_at.ensures.0 ∙ c.if-u32_at-len.false)
+    (past3 a.keysize a.check a.file.now (sym c.byte_at.ensures.0 ∙ c.if-byte_at-keysize.false) few_at_11
+    (sym c.u32_at.ensures.0 ∙ c.if-u32_at-len.false)
     ∙ stop (field_cases a.keysize a.check a.file.now) 3
     (rw (← c.least_length.ensures) (lt-ltb _ _ c.if-len-least_length.true)))
 
@@ -92,11 +93,12 @@ pub returns-then-not-same : goal.returns-then-not-same
 unfolding field_cases
 returns-then-not-same c =
     let a = c.args in
+    let few_at_12 : count_of a.file.now ≤ 64 = rw (← c.count.ensures.0) c.if-count-gt64.false in
     let compared : c.same.result ≡ same_bytes (key_check_of a.file.now) a.check =
     c.same.ensures ∙ ap (λ (l : List ℕ). same_bytes l a.check) c.part.ensures.bytes in
     sym
-    (past4 a.keysize a.check a.file.now (sym c.byte_at.ensures.0 ∙ c.if-byte_at-keysize.false)
-    (rw (← c.count.ensures.0) c.if-count-gt64.false) (sym c.u32_at.ensures.0 ∙ c.if-u32_at-len.false)
+    (past4 a.keysize a.check a.file.now (sym c.byte_at.ensures.0 ∙ c.if-byte_at-keysize.false) few_at_12
+    (sym c.u32_at.ensures.0 ∙ c.if-u32_at-len.false)
     (rw (← c.least_length.ensures) c.if-len-least_length.false)
     ∙ stop (field_cases a.keysize a.check a.file.now) 4 (ap not (sym compared ∙ c.if-not-same.true)))
 
@@ -104,10 +106,11 @@ pub returns : goal.returns
 unfolding field_cases first_of
 returns c =
     let a = c.args in
+    let few_of_all : count_of a.file.now ≤ 64 = rw (← c.count.ensures.0) c.if-count-gt64.false in
     let compared : c.same.result ≡ same_bytes (key_check_of a.file.now) a.check =
     c.same.ensures ∙ ap (λ (l : List ℕ). same_bytes l a.check) c.part.ensures.bytes in
     sym
-    (past5 a.keysize a.check a.file.now (sym c.byte_at.ensures.0 ∙ c.if-byte_at-keysize.false)
-    (rw (← c.count.ensures.0) c.if-count-gt64.false) (sym c.u32_at.ensures.0 ∙ c.if-u32_at-len.false)
+    (past5 a.keysize a.check a.file.now (sym c.byte_at.ensures.0 ∙ c.if-byte_at-keysize.false) few_of_all
+    (sym c.u32_at.ensures.0 ∙ c.if-u32_at-len.false)
     (rw (← c.least_length.ensures) c.if-len-least_length.false)
     (sym compared ∙ c.if-not-same.false))

@@ -33,7 +33,8 @@ pub returns-in_default : goal.returns-in_default
 returns-in_default c =
     let a = c.args in
     let none = sym c.refusal-n.ensures ∙ c.if-n-ne0.false in
-    let s = start a.key_file.now a.sheet.now _ _ c.prepare-prepared.result c.key_size-size.ensures.0 c.if-key_file-size.false
+    let long = c.if-key_file-size.false in
+    let s = start a.key_file.now a.sheet.now _ _ c.prepare-prepared.result c.key_size-size.ensures.0 long
     c.part.ensures.bytes c.prepare-prepared.ensures in
     absurd (key_taken a.key_file.now a.sheet.now none s.0 c.prepare-prepared.result s.1 c.in_default.not-Ready)
 
@@ -45,7 +46,8 @@ pub returns : goal.returns
 returns c =
     let a = c.args in
     let none = sym c.refusal-n.ensures ∙ c.if-n-ne0.false in
-    let s = start a.key_file.now a.sheet.now _ _ c.prepare-prepared.result c.key_size-size.ensures.0 c.if-key_file-size.false
+    let enough = c.if-key_file-size.false in
+    let s = start a.key_file.now a.sheet.now _ _ c.prepare-prepared.result c.key_size-size.ensures.0 enough
     c.part.ensures.bytes c.prepare-prepared.ensures in
     sealed_under a.key_file.now a.tag_key.now a.sheet.now a.plain.now a.out.now none s.0 _ _ _ s.1.schedule
     c.seal_under.ensures

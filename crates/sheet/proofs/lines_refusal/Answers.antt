@@ -27,7 +27,7 @@ loop-i-preserved c = (omega (arith, c.lines-count.ensures), below_more _ _ c.loo
 
 pub returns : goal.returns
 returns c =
-    let few = c.if-count-gt64.false in
+    let at_most = c.if-count-gt64.false in
     let n = c.lines-count.ensures in
     let end = c.loop-i-test.false in
     sym (lines_each _ (omega arith) ∙ items_pass _ _ (line_positive _) (λ k l. c.loop-i.invariant.1 k (omega arith)))
