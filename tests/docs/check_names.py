@@ -13,7 +13,7 @@ A row is `| promise | name | definition | proof |`, with paths from crates/. The
 
 That the proofs hold is for rt to say: it refuses a file that it does not prove. Whether a contract is
 strong enough is for its reader, and for the must-fail edits. Beside the rows, every public function
-must have an `ensures` and no `requires`.
+and every function of a trait must have an `ensures` and no `requires`.
 """
 
 import glob
@@ -26,6 +26,8 @@ UNDER_TITLE = re.compile(r"\n\|(?: *:?-+:? *\|){4}\n")
 THEOREM = re.compile(r"`([\w-]+) : ([^`]+)`")
 CONTRACT = re.compile(r"`(\S+)` of `(\w+)::(\w+)`")
 HEAD = re.compile(r'^ *((?:pub )?(?:extern "C" )?fn (\w+).*?)\{$', re.M | re.S)
+# A function of a trait, which has no body.
+DECLARED = re.compile(r"^ *(fn (\w+)(?:(?!\{$).)*?);$", re.M | re.S)
 MADE = "made by the prover"
 # What may be written of a function's proof.
 PARTS = ("Proof.antt", "Invariants.antt", "Answers.antt")
@@ -47,7 +49,12 @@ def sources(crate):
 
 def heads(crate):
     """Each function's name, with what stands before its body: its arguments and its contract."""
-    return [(name, head) for text in sources(crate) for head, name in HEAD.findall(text)]
+    return [(name, head) for text in sources(crate) for head, name in HEAD.findall(DECLARED.sub("", text))]
+
+
+def declared(crate):
+    """The same of the functions of traits."""
+    return [(name, head) for text in sources(crate) for head, name in DECLARED.findall(text)]
 
 
 def defines(path, word):
@@ -123,6 +130,9 @@ def call_faults():
         for function, head in heads(crate):
             if head.count("fn ") > 1 or head.startswith("pub ") and ("requires" in head or "ensures" not in head):
                 yield "%s::%s is public, and has a requires or no ensures" % (crate, function)
+        for function, head in declared(crate):
+            if "requires" in head or "ensures" not in head:
+                yield "%s::%s is a trait's, and has a requires or no ensures" % (crate, function)
 
 
 def main():

@@ -65,10 +65,7 @@ module _ (order : List ℕ → ℕ) (key tag_key file : List ℕ) (e : first_of 
   pub accepted_tag_key : first_of (tag_key_cases (length tag_key)) ≡ 0
   accepted_tag_key = tag_key_stage.0
 
-  pub accepted_rounds : good_rounds (schedule_of key).rounds ≡ true
-  accepted_rounds = good_rounds_lem key accepted_key
-
-  -- of the tag key too, where there is one
+  -- the tag key's schedule, where there is one, has good rounds
   pub accepted_tag_rounds : (length tag_key ≡ 0 → ⊥) → good_rounds (schedule_of tag_key).rounds ≡ true
   accepted_tag_rounds h =
       good_rounds_lem tag_key (key_good (length tag_key) (sym (tag_key_some (length tag_key) h) ∙ tag_key_stage.0))

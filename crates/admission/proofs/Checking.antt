@@ -1,31 +1,30 @@
 -- The cases of checking: those of the key, of the tag key, of the header, of the directory and of the tag, one group after another; and the
 -- answers of key preparation as the first of them.
 -- Assumes nothing.
-use mathlib.Core.Path.{◌≡◌, refl, sym, ap, ◌∙◌}
-use mathlib.Core.Bool.{Bool, true, false, not, cond, ◌&&◌}
-use mathlib.Core.List.{List, [], ◌∷◌, ◌++◌, append_assoc}
+use mathlib.Core.Path.{◌≡◌, refl, sym, ap, subst, ◌∙◌}
+use mathlib.Core.Bool.{Bool, true, not, ◌&&◌}
+use mathlib.Core.List.{List, ◌++◌, append_assoc}
 use Prim.Native.Nat.{ℕ}
 use lib.Dec.{eqb}
 use lib.ListN.{length}
+use Rattle.std.specs.Prelude.{Result, Err}
 use Rattle.refusals.specs.Cases.{first_of, positive, lacks}
-use Rattle.refusals.specs.Shared.{good_key, key_cases, tag_key_cases}
+use Rattle.refusals.specs.Numbers.{number}
+use Rattle.refusals.specs.Shared.{key_cases, tag_key_cases}
+use Rattle.refusals.specs.declared.Refusal.{Refusal}
 use Rattle.refusals.proofs.Booleans.{both_true}
-use Rattle.refusals.proofs.Shared.{key_0, key_positive, key_lacks, tag_key_positive, tag_key_lacks}
+use Rattle.refusals.proofs.Numbers.{number_some}
+use Rattle.refusals.proofs.Shared.{key_positive, key_lacks, tag_key_positive, tag_key_lacks}
 use Rattle.refusals.proofs.Cases.{first_stop, first_pass, positive_append, lacks_append}
 use Rattle.circuit.specs.declared.Schedule.{Schedule}
-use Rattle.expansion.specs.Outcomes.{number}
-use Rattle.expansion.specs.KeySchedule.{schedule_of, Prepares}
-use Rattle.expansion.specs.declared.Outcome.TheVariants.{Ready}
-use Rattle.expansion.specs.declared.Prepared.{Prepared}
-use Rattle.expansion.proofs.Taken.{number_else}
+use Rattle.expansion.specs.KeySchedule.{schedule_of}
 use Rattle.header.specs.Fields.{layout_under, directory_end, directory_of, bodies_end}
 use Rattle.header.specs.Cases.{header_cases}
 use Rattle.header.proofs.Cases.{not_of_header, header_positive, header_lacks}
 use Rattle.directory.specs.Check.{directory_cases_by}
 use Rattle.directory.proofs.Cases.{not_of_directory, directory_positive, directory_lacks}
-use Rattle.admission.specs.Check.{key_check, wrong_tag_cases, file_cases_by, under_key_cases}
-use Rattle.admission.specs.Check.{under_key_cases_by, check_cases, check_cases_by}
-use Rattle.admission.specs.Check.{tag_schedule_under}
+use Rattle.admission.specs.Check.{key_check, wrong_tag_cases, file_cases_by, under_key_cases_by, check_cases, check_cases_by, Admits}
+use Rattle.admission.specs.declared.Admitted.{Admitted}
 
 -- m is the number of no case of checking: computed where m is a numeral
 abbrev pub not_of_check : ℕ → Bool
@@ -88,37 +87,17 @@ module _ (order : List ℕ → ℕ) (key tag_key file : List ℕ) where
       ∙ ap first_of (append_assoc header directory (wrong_tag_cases tag_key file))
       ∙ first_pass header _ (header_positive _ _ _ file) h
 
--- ---- the tag key's schedule, as it is handed on
+-- the header first, then the directory: a refusal of the first stands, and else the second is left
+pub ruleset in_stages = (first_stop, first_pass, number_some, header_positive)
 
-pub tag_schedule_good : (key tag_key : List ℕ) → good_key (length key) ≡ true → schedule_of tag_key ≡ tag_schedule_under key tag_key
-unfolding tag_schedule_under
-tag_schedule_good key tag_key e = rw e
+-- a refused key is the answer
+pub check_key : (key tag_key file : List ℕ) (e : Refusal) → number e ≡ first_of (key_cases (length key))
+    → number e ≡ first_of (check_cases key tag_key file)
+unfolding check_cases_by
+check_key key tag_key file e q = q ∙ sym (first_stop (key_cases (length key)) _ (λ z. number_some e (q ∙ z)))
 
--- beside a key that is refused
-pub tag_schedule_else : (key tag_key : List ℕ) (p : Prepared) → Prepares key p → (p.outcome ≡ Ready → ⊥)
-    → schedule_of key ≡ tag_schedule_under key tag_key
-unfolding tag_schedule_under
-tag_schedule_else key tag_key p r t = by_test (good_key (length key)) refl
-  where
-    by_test : (good : Bool) → good_key (length key) ≡ good → schedule_of key ≡ cond good (schedule_of tag_key) (schedule_of key)
-    by_test true e = absurd (number_else p.outcome t (r.number ∙ key_0 (length key) e))
-    by_test false e = refl
-
--- ---- the two ways out of admission
-
-module _ (key tag_key file : List ℕ) (p : Prepared) (r : Prepares key p) (n : ℕ) where
-  -- the key is refused
-  pub check_else : (p.outcome ≡ Ready → ⊥) → n ≡ number p.outcome
-      → n ≡ first_of (check_cases key tag_key file)
-  unfolding check_cases_by
-  check_else t e =
-      e ∙ r.number ∙ sym (first_stop (key_cases (length key)) _ (λ q. number_else p.outcome t (r.number ∙ q)))
-
-  -- the key is good: tag key and file are asked
-  pub check_ready : p.outcome ≡ Ready → n ≡ first_of (under_key_cases p.schedule (length key) tag_key file)
-      → n ≡ first_of (check_cases key tag_key file)
-  unfolding check_cases_by
-  check_ready o e =
-      e
-      ∙ ap (λ (s : Schedule). first_of (under_key_cases s (length key) tag_key file)) r.schedule
-      ∙ sym (first_pass (key_cases (length key)) _ (key_positive (length key)) (sym r.number ∙ ap number o))
+-- a refusal that is passed on hands on no schedule
+pub admits_none : (key tag_key file : List ℕ) (r : Result Admitted Refusal) (e : Refusal) → r ≡ Err e
+    → number e ≡ first_of (check_cases key tag_key file) → Admits key tag_key file r
+admits_none key tag_key file r e told n =
+    subst (λ (x : Result Admitted Refusal). Admits key tag_key file x) (sym told) (record { number = n; handed = tt })

@@ -7,7 +7,8 @@ use lib.ListN.{replicate}
 use Rattle.refusals.specs.Cases.{first_of}
 use Rattle.refusals.specs.Answers.{unless_refused}
 use Rattle.refusals.specs.Shared.{good_rounds, rounds_cases}
-use Rattle.refusals.proofs.Shared.{rounds_0, rounds_3, rounds_bad}
+use Rattle.refusals.proofs.Numbers.{number_some}
+use Rattle.refusals.proofs.Shared.{rounds_0, rounds_3, rounds_good, rounds_bad}
 use Rattle.circuit.specs.declared.Schedule.{Schedule}
 use Rattle.admission.specs.Check.{key_check, key_check_under}
 
@@ -19,3 +20,6 @@ module _ (s : Schedule) where
   pub check_refused : (first_of (rounds_cases s.rounds) ≡ 0 → ⊥) → key_check_under s ≡ replicate 8 0
   unfolding key_check_under
   check_refused h = ap (λ (n : ℕ). unless_refused n (key_check s) (replicate 8 0)) (rounds_3 s.rounds (rounds_bad s.rounds h))
+
+-- a round count that is taken, and one that is not
+pub ruleset of_any = (check_given, check_refused, number_some, rounds_good)

@@ -1,4 +1,3 @@
 pub mod Check
-pub mod Internal
 pub mod Layout1
 pub mod Layout2

@@ -7,10 +7,14 @@ use Prim.Native.Nat.{ℕ, zero, suc, ◌<◌, ◌≤◌}
 use native.Mathlib.Omega.{arith}
 use denote.Ref.{Bor}
 use lib.ListN.{length}
+use Rattle.std.specs.Prelude.{Result, Err}
 use Rattle.refusals.specs.Cases.{first_of}
 use Rattle.refusals.specs.Answers.{Answer, refused, gives, answer}
+use Rattle.refusals.specs.Numbers.{number, answer_of}
+use Rattle.refusals.specs.declared.Refusal.{Refusal}
 use Rattle.refusals.proofs.Cases.{first_stop, first_pass, first_none, first_lacks}
 use Rattle.refusals.proofs.Answers.{answer_gives, answer_number, answer_first, part_refused, part_gives}
+use Rattle.refusals.proofs.Numbers.{number_some}
 use Rattle.octets.specs.Parts.{lies_at}
 use Rattle.header.specs.Fields.{directory_of}
 use Rattle.jobnumber.specs.Number.{is_job_number, order_of}
@@ -96,6 +100,20 @@ module _ (key tag_key file number : List ℕ) where
         let ascending = (sound_directories _ _ _ (accepted_directory order_of key tag_key file q.0)).ascending in
         none_bears (directory_of file) number ascending (number_missing file number q.1) i (omega arith);
   }
+
+-- ---- the ways out of `find`
+
+module _ (key tag_key file sought : List ℕ) where
+  -- a refused archive
+  pub finds_refused : (r : Result ℕ Refusal) (e : Refusal) → r ≡ Err e → number e ≡ first_of (check_cases key tag_key file)
+      → Finds key tag_key file sought (answer_of r)
+  finds_refused r e told q =
+      finds key tag_key file sought (answer_of r) (ap answer_of told ∙ find_refused key tag_key file sought (number e) q (number_some e))
+
+  -- an accepted one
+  pub finds_asked : (r : Result ℕ Refusal) → 0 ≡ first_of (check_cases key tag_key file) → answer_of r ≡ lookup_of file sought
+      → Finds key tag_key file sought (answer_of r)
+  finds_asked r z e = finds key tag_key file sought (answer_of r) (e ∙ find_asked key tag_key file sought (sym z))
 
 -- ---- the ways out of `body`
 

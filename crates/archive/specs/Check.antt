@@ -4,21 +4,14 @@
 use Rattle.std.specs.Prelude.{◌≡◌, List, ℕ}
 use Rattle.std.specs.Borrow.{Bor}
 use Rattle.refusals.specs.Cases.{first_of}
-use Rattle.refusals.specs.Answers.{Answer, refused, gives, answer, part_for}
+use Rattle.refusals.specs.Answers.{Answer, gives, answer, part_for}
 use Rattle.octets.specs.Parts.{lies_at}
 use Rattle.header.specs.Fields.{count_of, directory_of}
 use Rattle.admission.specs.Check.{check_cases}
-use Rattle.archive.specs.declared.Checked.{Checked}
-use Rattle.archive.specs.declared.Checked.TheVariants.{Jobs, Refused}
 
 -- what checking answers: the job count
 abbrev pub check_of : List ℕ → List ℕ → List ℕ → Answer
 check_of key tag_key file = answer (first_of (check_cases key tag_key file)) (count_of file)
-
--- the answer that a value of `Checked` is
-abbrev pub checked_as : Checked → Answer
-checked_as (Jobs n) = gives n
-checked_as (Refused n) = refused n
 
 -- the directory that is handed back
 abbrev pub directory_given : List ℕ → List ℕ → List ℕ → List ℕ

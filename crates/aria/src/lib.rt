@@ -1,34 +1,31 @@
-// ARIA under a key, and CMAC with it, with numbers for answers: what `aria_c` exports as libaria.a, for callers in Rattle.
+// ARIA under a key, by either engine, and CMAC with it: what `aria_c` exports as libaria.a, for callers in Rattle.
 #![tactic(auto)]
 
 ghost use Rattle.std.specs.Prelude.{◌≡◌};
+ghost use Rattle.refusals.specs.Numbers.{number_in};
 ghost use Rattle.keyed.specs.KeyRun.{RanUnderKey};
 ghost use Rattle.cmac.specs.Tag.{verify_number, WritesTag};
 
-// A run under a key by the plain engine: 0, or 01's refusal 1, 2 or 4.
-pub fn aria_run_plain(key: &[u8], direction: u32, run: &mut [u8]) -> u32
-    ensures { RanUnderKey key.now direction run.old result run.new }
+pub use engines::Engine;
+pub use refusals::Refusal;
+
+// A run under a key, forward by direction 0 and back by 1: refusal 1, 2 or 4.
+pub fn run(engine: Engine, key: &[u8], direction: u32, run: &mut [u8]) -> Result<(), Refusal>
+    ensures { RanUnderKey key.now direction run.old (number_in result) run.new }
 {
-    keyed::run_plain(key, direction, run)
+    keyed::run(engine, key, direction, run)
 }
 
-// The same by the word-table engine.
-pub fn aria_run_tables(key: &[u8], direction: u32, run: &mut [u8]) -> u32
-    ensures { RanUnderKey key.now direction run.old result run.new }
-{
-    keyed::run_tables(key, direction, run)
-}
-
-// Writes the CMAC of a run under a key into a lent tag: 0, or 1 or 23, which leave the lent tag as it was.
-pub fn aria_cmac(key: &[u8], run: &[u8], tag: &mut [u8]) -> u32
-    ensures { WritesTag key.now run.now tag.old result tag.new }
+// Writes the CMAC of a run under a key into a lent tag: refusals 1 and 23 leave the lent tag as it was.
+pub fn cmac(key: &[u8], run: &[u8], tag: &mut [u8]) -> Result<(), Refusal>
+    ensures { WritesTag key.now run.now tag.old (number_in result) tag.new }
 {
     cmac::tag_into(key, run, tag)
 }
 
-// Whether a lent tag is the CMAC of a run under a key: 0 for yes, 25 for no, or 1 or 23.
-pub fn aria_cmac_verify(key: &[u8], run: &[u8], tag: &[u8]) -> u32
-    ensures { result ≡ verify_number key.now run.now tag.now }
+// Whether a lent tag is the CMAC of a run under a key: refusal 1 or 23, or 25 where it is another.
+pub fn cmac_verify(key: &[u8], run: &[u8], tag: &[u8]) -> Result<(), Refusal>
+    ensures { number_in result ≡ verify_number key.now run.now tag.now }
 {
-    cmac::number_of(cmac::verify(key, run, tag))
+    cmac::verify(key, run, tag)
 }

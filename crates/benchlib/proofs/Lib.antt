@@ -1,3 +1,4 @@
+pub mod Told
 pub mod Bench
 pub mod Opening
 pub mod Sealing

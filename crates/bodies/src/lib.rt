@@ -4,18 +4,19 @@
 #![tactic(auto)]
 
 ghost use Rattle.std.specs.Prelude.{◌≡◌};
-ghost use Rattle.directory.specs.Search.{found_as};
+ghost use Rattle.refusals.specs.Numbers.{answer_of};
 ghost use Rattle.bodies.specs.Bodies.{lookup_of, BodyPart};
 
-use directory::Found;
 use octets::{part, u32_at};
+use refusals::Refusal;
 
 // Looks a job number up in the directory of a file.
-pub fn lookup(file: &[u8], number: &[u8]) -> Found
-    ensures { found_as result ≡ lookup_of file.now number.now }
+#[tactic(auto, unfolding(refusals::specs::Cases::first_of, crate::specs::Bodies::number_cases))]
+pub fn lookup(file: &[u8], number: &[u8]) -> Result<usize, Refusal>
+    ensures { answer_of result ≡ lookup_of file.now number.now }
 {
     if !jobnumber::is_job_number(number) {
-        return Found::Refused(18);
+        return Err(Refusal::NoJobNumber);
     }
     directory::search(header::directory(file), number)
 }
@@ -24,6 +25,6 @@ pub fn lookup(file: &[u8], number: &[u8]) -> Found
 pub fn body_at(file: &[u8], i: usize) -> &[u8]
     ensures { BodyPart file.entry i result }
 {
-    let e = directory::entry(header::directory(file), i);
-    part(file, u32_at(e, 8), u32_at(e, 12))
+    let entry = directory::entry(header::directory(file), i);
+    part(file, u32_at(entry, 8), u32_at(entry, 12))
 }

@@ -8,11 +8,14 @@ use native.Mathlib.Omega.{arith}
 use lib.Dec.{eqb}
 use lib.ListN.{length}
 use borrow.Author.Tests.{eqb-true, eqb-false}
+use Rattle.refusals.specs.declared.Refusal.{Refusal}
 use Rattle.refusals.specs.Cases.{first_of}
 use Rattle.refusals.specs.Answers.{unless_refused}
 use Rattle.refusals.specs.Shared.{good_rounds, rounds_cases, whole_cases}
+use Rattle.refusals.specs.Numbers.{number}
 use Rattle.refusals.proofs.Cases.{first_stop, first_pass}
-use Rattle.refusals.proofs.Shared.{rounds_positive, rounds_0, rounds_3, whole_0, whole_4}
+use Rattle.refusals.proofs.Numbers.{number_some}
+use Rattle.refusals.proofs.Shared.{rounds_positive, rounds_0, rounds_3, rounds_good, rounds_bad, whole_0, whole_4}
 use Rattle.blocks.specs.Runs.{each_block}
 use Rattle.blocks.proofs.Runs.{each_one}
 use Rattle.boxes.specs.Boxes.{box}
@@ -41,6 +44,16 @@ number_4 n len e h = number_length n len e ∙ whole_4 len h
 
 pub number_0 : (n len : ℕ) → good_rounds n ≡ true → len % 16 ≡ 0 → run_number n len ≡ 0
 number_0 n len e h = number_length n len e ∙ whole_0 len h
+
+-- a refusal of the round count is that of the run
+pub number_rounds : (e : Refusal) (n len : ℕ) → number e ≡ first_of (rounds_cases n) → number e ≡ run_number n len
+unfolding run_cases
+number_rounds e n len q = q ∙ sym (first_stop (rounds_cases n) (whole_cases len) (λ z. number_some e (q ∙ z)))
+
+-- what a test of the round count tells, and what the tests of a run tell of its number
+pub ruleset rounds_tests = (rounds_good, rounds_bad, number_some)
+
+pub ruleset run_tests = (number_rounds, number_4, number_0, rounds_good)
 
 -- a run that is done has a good round count and whole blocks
 pub done_rounds : (n len : ℕ) → run_number n len ≡ 0 → good_rounds n ≡ true
@@ -74,14 +87,7 @@ module _ (s : Schedule) (xs : List ℕ) where
       by_number : (k : ℕ) → (k ≡ 0 → ⊥) → unless_refused k (each_block (encrypted s) xs) xs ≡ xs
       by_number zero h = absurd (h refl)
       by_number (suc k) h = refl
-
-  -- ---- the contract of a run, refused and done
-
-  pub ran_refused : (r : ℕ) → r ≡ run_number s.rounds (length xs) → (r ≡ 0 → ⊥) → Ran s xs r xs
-  ran_refused r e h = record { number = e; bytes = sym (bytes_refused (λ q. h (e ∙ q))) }
-
-  pub ran_done : (r : ℕ) (ys : List ℕ) → r ≡ run_number s.rounds (length xs) → r ≡ 0 → ys ≡ each_block (encrypted s) xs → Ran s xs 0 ys
-  ran_done r ys e z d = record { number = sym z ∙ e; bytes = d ∙ sym (bytes_done (sym e ∙ z)) }
+      -- ---- the contract of a run, refused and done
 
 -- a run of one block is the block through the cipher
 pub one_block : (s : Schedule) (b : List ℕ) (r : ℕ) (after : List ℕ) → good_rounds s.rounds ≡ true → length b ≡ 16 → Ran s b r after

@@ -1,52 +1,65 @@
 -- What tagging and comparing answer, case by case, over the cases of the key or of the schedule that stand before them.
 -- Assumes nothing.
 use mathlib.Core.Path.{◌≡◌, refl, sym, ap, ap₂, ◌∙◌}
-use mathlib.Core.Bool.{Bool, true, false, not}
-use mathlib.Core.List.{List, [], ◌∷◌, ◌++◌}
+use mathlib.Core.Bool.{Bool, true, false, not, cond}
+use mathlib.Core.List.{List, [], ◌∷◌}
 use Prim.Native.Nat.{ℕ, zero, suc}
 use native.Mathlib.Omega.{arith}
 use borrow.Author.Tests.{eq-eqb, ne_eqb}
 use lib.Dec.{eqb}
 use lib.ListN.{length}
+use Rattle.std.specs.Prelude.{Ok, Err}
 use Rattle.refusals.specs.Cases.{Case, when, first_of, positive}
 use Rattle.refusals.specs.Answers.{unless_refused}
-use Rattle.refusals.specs.Shared.{good_key, key_cases}
+use Rattle.refusals.specs.Numbers.{number}
+use Rattle.refusals.specs.Shared.{good_key, key_cases, rounds_cases}
+use Rattle.refusals.specs.declared.Refusal.{Refusal}
 use Rattle.refusals.proofs.Cases.{first_stop, first_pass, one_applies, one_passes}
-use Rattle.refusals.proofs.Shared.{key_positive, key_0}
+use Rattle.refusals.proofs.Numbers.{number_some, refused_leaves}
+use Rattle.refusals.proofs.Shared.{key_positive, key_0, key_good, rounds_positive, rounds_good}
 use Rattle.octets.specs.Equality.{same_bytes}
 use Rattle.octets.specs.Parts.{overwritten}
 use Rattle.octets.proofs.Parts.{overwritten_whole}
 use Rattle.blocks.specs.Blocks.{block_of}
 use Rattle.blocks.specs.Chains.{zero_block}
 use Rattle.blocks.proofs.Blocks.{block_whole}
+use Rattle.circuit.specs.Good.{no_schedule, Accepts}
+use Rattle.circuit.specs.declared.GoodSchedule.{GoodSchedule}
 use Rattle.circuit.specs.declared.Schedule.{Schedule}
-use Rattle.expansion.specs.Outcomes.{number}
 use Rattle.expansion.specs.KeySchedule.{schedule_of}
 use Rattle.cmac.specs.Tag.{tag_under, Tags, tag_cases, verify_cases, write_number, WritesTag}
-use Rattle.cmac.specs.declared.Tagged.{Tagged}
+
+-- a schedule that was taken for a good one is the schedule
+pub taken : (s : Schedule) (good : GoodSchedule) → Accepts s (Ok good) → good.schedule ≡ s
+taken s good a = a.schedule ∙ ap (λ (b : Bool). cond b s no_schedule) (rounds_good s.rounds (sym a.number))
 
 -- what stands in place of a refusal
-pub in_place : (n : ℕ) (xs ys : List ℕ) → (n ≡ 0 → ⊥) → unless_refused n xs ys ≡ ys
-in_place zero xs ys h = absurd (h refl)
-in_place (suc n) xs ys h = refl
+refused_run : (n : ℕ) (xs ys : List ℕ) → (n ≡ 0 → ⊥) → unless_refused n xs ys ≡ ys
+refused_run zero xs ys h = absurd (h refl)
+refused_run (suc n) xs ys h = refl
 
 -- ---- tagging
 
-module _ (cases : List Case) (s : Schedule) (run : List ℕ) (r : Tagged) where
-  -- zero bytes beside a refusal
-  pub tags_refused : number r.outcome ≡ first_of cases → (number r.outcome ≡ 0 → ⊥) → r.tag ≡ zero_block → Tags cases s run r
-  tags_refused e h z = record { number = e; tag = z ∙ sym (in_place (first_of cases) (tag_under s run) zero_block (λ q. h (e ∙ q))) }
+module _ (cases : List Case) (s : Schedule) (run : List ℕ) where
+  pub tags_refused : (e : Refusal) → number e ≡ first_of cases → Tags cases s run (Err e)
+  tags_refused e q = record {
+    number = q;
+    tag = sym (ap (λ (n : ℕ). unless_refused n (tag_under s run) zero_block) (sym q) ∙ refused_leaves e (tag_under s run) zero_block);
+  }
 
-  pub tags_done : number r.outcome ≡ 0 → first_of cases ≡ 0 → r.tag ≡ tag_under s run → Tags cases s run r
-  tags_done n z e =
-      record { number = n ∙ sym z; tag = e ∙ ap (λ (k : ℕ). unless_refused k (tag_under s run) zero_block) (sym z) }
+  pub tags_done : (t : Schedule) (tag : List ℕ) → 0 ≡ first_of cases → t ≡ s → tag ≡ tag_under t run → Tags cases s run (Ok tag)
+  tags_done t tag z et e = record {
+    number = z;
+    tag =
+        e
+        ∙ ap (λ (u : Schedule). tag_under u run) et
+        ∙ ap (λ (n : ℕ). unless_refused n (tag_under s run) zero_block) z;
+  }
 
-  -- where neither is refused, a tag under a schedule is one under the key that the schedule is of
-  pub tags_alike : (others : List Case) (t : Schedule) → first_of cases ≡ 0 → first_of others ≡ 0 → t ≡ s → Tags others t run r
-      → Tags cases s run r
-  tags_alike others t z zo e tags =
-      tags_done (tags.number ∙ zo) z
-      (tags.tag ∙ ap₂ (λ (k : ℕ) (u : Schedule). unless_refused k (tag_under u run) zero_block) zo e)
+pub tags_under : (s : Schedule) (run : List ℕ) (good : GoodSchedule) (tag : List ℕ) → Accepts s (Ok good)
+    → tag ≡ tag_under good.schedule run
+    → Tags (rounds_cases s.rounds) s run (Ok tag)
+tags_under s run good tag a e = tags_done (rounds_cases s.rounds) s run good.schedule tag a.number (taken s good a) e
 
 -- ---- 23
 
@@ -63,11 +76,6 @@ unfolding tag_cases
 tag_0 len e = one_passes (not (eqb len 16)) 23 (ap not (eq-eqb len 16 e))
 
 -- ---- comparing
-
--- the block that the lent tag is read as, compared in its place
-pub same_tag : (s : Schedule) (run tag m b : List ℕ) → length tag ≡ 16 → m ≡ tag_under s run → b ≡ block_of tag
-    → same_bytes (tag_under s run) tag ≡ same_bytes m b
-same_tag s run tag m b h em eb = ap₂ same_bytes (sym em) (sym (eb ∙ block_whole tag h))
 
 module _ (cases : List Case) (p : positive cases ≡ true) (s : Schedule) (run tag : List ℕ) where
   -- refused before the tag is looked at
@@ -99,14 +107,47 @@ module _ (cases : List Case) (p : positive cases ≡ true) (s : Schedule) (run t
     unfolding first_of
     verify_25 h e = verify_same h false e
 
--- the cases of a good schedule and those of a good key come to the same
-pub verify_alike : (a b : List Case) (s t : Schedule) (run tag : List ℕ) → positive a ≡ true → positive b ≡ true → first_of a ≡ 0
-    → first_of b ≡ 0 → s ≡ t → first_of (verify_cases a s run tag) ≡ first_of (verify_cases b t run tag)
+-- where no case stands before the tag's
+module _ (s : Schedule) (run tag : List ℕ) where
+  none : first_of [] ≡ 0
+  unfolding first_of
+  none = refl
+
+  some : positive [] ≡ true
+  unfolding positive
+  some = refl
+
+  pub good_same : length tag ≡ 16 → (same : Bool) → same_bytes (tag_under s run) tag ≡ same
+      → first_of (verify_cases [] s run tag) ≡ first_of (when (not same) 25 ∷ [])
+  good_same h same e = verify_same [] some s run tag none h same e
+
+  pub good_23 : (length tag ≡ 16 → ⊥) → 23 ≡ first_of (verify_cases [] s run tag)
+  good_23 h = sym (verify_23 [] some s run tag none h)
+
+  -- the tag that is made, and the block that the lent one is read as, compared in its place
+  module _ (m b : List ℕ) (h : length tag ≡ 16) (em : m ≡ tag_under s run) (eb : b ≡ block_of tag) where
+    same_tag : same_bytes (tag_under s run) tag ≡ same_bytes m b
+    same_tag = ap₂ same_bytes (sym em) (sym (eb ∙ block_whole tag h))
+
+    pub good_25 : false ≡ same_bytes m b → 25 ≡ first_of (verify_cases [] s run tag)
+    good_25 e = sym (verify_25 [] some s run tag none h (same_tag ∙ sym e))
+
+    pub good_0 : true ≡ same_bytes m b → 0 ≡ first_of (verify_cases [] s run tag)
+    good_0 e = sym (verify_0 [] some s run tag none h (same_tag ∙ sym e))
+
+-- a refused key or schedule is the answer
+pub verify_refused : (cases : List Case) (s : Schedule) (run tag : List ℕ) (n : ℕ) → positive cases ≡ true → n ≡ first_of cases
+    → (n ≡ 0 → ⊥) → n ≡ first_of (verify_cases cases s run tag)
+verify_refused cases s run tag n p e h = e ∙ sym (verify_before cases p s run tag (λ z. h (e ∙ z)))
+
+pub ruleset refused_first = (verify_refused, key_positive, rounds_positive, number_some)
+
+-- a good one leaves the tag's cases
+pub verify_asked : (cases : List Case) (s t : Schedule) (run tag : List ℕ) (r : ℕ) → positive cases ≡ true → 0 ≡ first_of cases → t ≡ s
+    → r ≡ first_of (verify_cases [] t run tag) → r ≡ first_of (verify_cases cases s run tag)
 unfolding verify_cases
-verify_alike a b s t run tag p q za zb e =
-    first_pass a _ p za
-    ∙ ap (λ (u : Schedule). first_of (tag_cases (length tag) ++ (when (not (same_bytes (tag_under u run) tag)) 25 ∷ []))) e
-    ∙ sym (first_pass b _ q zb)
+verify_asked cases s t run tag r p z et e =
+    e ∙ ap (λ (u : Schedule). first_of (verify_cases [] u run tag)) et ∙ sym (first_pass cases _ p (sym z))
 
 -- ---- writing
 
@@ -121,27 +162,27 @@ module _ (key run before : List ℕ) where
   abbrev number_of : ℕ
   number_of = write_number (length key) (length before)
 
-  left : (n : ℕ) → (n ≡ 0 → ⊥) → n ≡ number_of → before ≡ unless_refused number_of (tag_under (schedule_of key) run) before
-  left n h e = sym (in_place number_of (tag_under (schedule_of key) run) before (λ q. h (e ∙ q)))
+  -- a refusal leaves the lent tag alone
+  left : (n : ℕ) → n ≡ number_of → (n ≡ 0 → ⊥) → WritesTag key run before n before
+  left n e h =
+      let kept : unless_refused n (tag_under (schedule_of key) run) before ≡ before = refused_run n _ before h in
+      record { number = e; bytes = sym (ap (λ (k : ℕ). unless_refused k (tag_under (schedule_of key) run) before) (sym e) ∙ kept) }
 
-  -- refused for its key, the lent tag is left alone
-  pub writes_key : (r : ℕ) → r ≡ first_of (key_cases (length key)) → (r ≡ 0 → ⊥) → WritesTag key run before r before
-  writes_key r e h =
-      let n : r ≡ number_of = e ∙ sym (bad_key (length key) (length before) (λ q. h (e ∙ q))) in
-      record { number = n; bytes = left r h n }
+  pub writes_key : (n : ℕ) → n ≡ first_of (key_cases (length key)) → (n ≡ 0 → ⊥) → WritesTag key run before n before
+  writes_key n e h = left n (e ∙ sym (bad_key (length key) (length before) (λ z. h (e ∙ z)))) h
 
-  module _ (good : good_key (length key) ≡ true) where
+  module _ (z : 0 ≡ first_of (key_cases (length key))) where
     -- and refused for its own length
     pub writes_23 : (length before ≡ 16 → ⊥) → WritesTag key run before 23 before
     writes_23 h =
-        let n : 23 ≡ number_of = sym (past_key (length key) (length before) good ∙ tag_23 (length before) h) in
-        record { number = n; bytes = left 23 (λ q. omega (arith, q)) n }
+        let good = key_good (length key) (sym z) in
+        left 23 (sym (past_key (length key) (length before) good ∙ tag_23 (length before) h)) (λ q. omega (arith, q))
 
     pub writes_tag : (s : Schedule) (tag after : List ℕ) → length before ≡ 16 → length tag ≡ 16 → s ≡ schedule_of key
         → tag ≡ tag_under s run
         → after ≡ overwritten tag before → WritesTag key run before 0 after
     writes_tag s tag after h l es et ea =
-        let n : number_of ≡ 0 = past_key (length key) (length before) good ∙ tag_0 (length before) h in
+        let n : number_of ≡ 0 = past_key (length key) (length before) (key_good (length key) (sym z)) ∙ tag_0 (length before) h in
         record {
           number = sym n;
           bytes =

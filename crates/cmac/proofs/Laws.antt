@@ -6,8 +6,11 @@ use mathlib.Core.List.{List, [], ◌∷◌}
 use Prim.Native.Nat.{ℕ}
 use native.Mathlib.Omega.{arith}
 use lib.ListN.{length}
+use Rattle.std.specs.Prelude.{Result}
 use Rattle.refusals.specs.Cases.{Case, when, first_of, positive}
 use Rattle.refusals.specs.Answers.{unless_refused}
+use Rattle.refusals.specs.Numbers.{number_in}
+use Rattle.refusals.specs.declared.Refusal.{Refusal}
 use Rattle.refusals.specs.Shared.{good_key, key_cases, good_rounds, rounds_cases}
 use Rattle.refusals.proofs.Cases.{one_applies, first_none}
 use Rattle.refusals.proofs.Shared.{key_positive, key_0, key_1, key_good, rounds_positive, rounds_0, rounds_3, rounds_good}
@@ -19,12 +22,10 @@ use Rattle.blocks.proofs.Chains.{length_chain}
 use Rattle.circuit.specs.Run.{encrypted}
 use Rattle.circuit.specs.declared.Schedule.{Schedule}
 use Rattle.circuit.proofs.Runs.{length_encrypted}
-use Rattle.expansion.specs.Outcomes.{number}
 use Rattle.expansion.specs.KeySchedule.{schedule_of}
 use Rattle.cmac.specs.Cmac.{blocks_before, mac_of}
-use Rattle.cmac.specs.Tag.{tag_under, Tags, tag_cases, verify_cases, write_number}
+use Rattle.cmac.specs.Tag.{tag_under, tag_in, Tags, tag_cases, verify_cases, write_number}
 use Rattle.cmac.specs.Laws.{TagSize, Compares, Comparison, ComparisonUnder, Writing, MadeVerifies}
-use Rattle.cmac.specs.declared.Tagged.{Tagged}
 use Rattle.cmac.proofs.Answers.{tag_positive, tag_0, tag_23, verify_before, verify_23, verify_0, verify_25, past_key, bad_key}
 
 pub tag_size_lem : TagSize
@@ -91,8 +92,8 @@ writing key run before r after w =
     bytes n e = w.bytes ∙ ap (λ (k : ℕ). unless_refused k (tag_under (schedule_of key) run) before) e
 
 -- a tag that stands beside no refusal is the run's
-made : (cases : List Case) (s : Schedule) (run : List ℕ) (r : Tagged) → Tags cases s run r → number r.outcome ≡ 0
-    → (first_of cases ≡ 0) × (r.tag ≡ tag_under s run)
+made : (cases : List Case) (s : Schedule) (run : List ℕ) (r : Result (List ℕ) Refusal) → Tags cases s run r → number_in r ≡ 0
+    → (first_of cases ≡ 0) × (tag_in r ≡ tag_under s run)
 made cases s run r t e =
     let z : first_of cases ≡ 0 = sym t.number ∙ e in
     (z, t.tag ∙ ap (λ (k : ℕ). unless_refused k (tag_under s run) zero_block) z)
@@ -108,8 +109,8 @@ made_verifies =
           (w.bytes ∙ ap (λ (k : ℕ). unless_refused k (tag_under (schedule_of key) run) before) z);
       by_key = λ key run r t e.
           let m = made (key_cases (length key)) (schedule_of key) run r t e in
-          tag_cases_lem (key_cases (length key)) (key_positive (length key)) (schedule_of key) run r.tag m.0 m.1;
+          tag_cases_lem (key_cases (length key)) (key_positive (length key)) (schedule_of key) run (tag_in r) m.0 m.1;
       by_schedule = λ s run r t e.
           let m = made (rounds_cases s.rounds) s run r t e in
-          tag_cases_lem (rounds_cases s.rounds) (rounds_positive s.rounds) s run r.tag m.0 m.1;
+          tag_cases_lem (rounds_cases s.rounds) (rounds_positive s.rounds) s run (tag_in r) m.0 m.1;
     }

@@ -1,13 +1,13 @@
 -- What is claimed of CMAC with ARIA (02, c: "A comparison call says yes exactly when the lent 16 bytes are that tag"), over the numbers and
 -- records that the contracts cite.
 -- Assumes nothing.
-use Rattle.std.specs.Prelude.{◌≡◌, Bool, true, false, List, ℕ, length}
+use Rattle.std.specs.Prelude.{◌≡◌, Bool, true, false, List, ℕ, length, Result}
+use Rattle.refusals.specs.Numbers.{number_in}
+use Rattle.refusals.specs.declared.Refusal.{Refusal}
 use Rattle.refusals.specs.Shared.{good_key, key_cases, good_rounds, rounds_cases}
 use Rattle.circuit.specs.declared.Schedule.{Schedule}
-use Rattle.expansion.specs.Outcomes.{number}
 use Rattle.expansion.specs.KeySchedule.{schedule_of}
-use Rattle.cmac.specs.Tag.{tag_under, Tags, verify_number, verify_number_under, WritesTag}
-use Rattle.cmac.specs.declared.Tagged.{Tagged}
+use Rattle.cmac.specs.Tag.{tag_under, tag_in, Tags, verify_number, verify_number_under, WritesTag}
 
 -- a tag has sixteen bytes, on every schedule and every run
 abbrev pub TagSize : Type 0
@@ -43,7 +43,7 @@ Writing = (key run before : List ℕ) (r : ℕ) (after : List ℕ) → WritesTag
 pub record MadeVerifies : Type 0 where
   pub written : (key run before : List ℕ) (r : ℕ) (after : List ℕ) → WritesTag key run before r after → r ≡ 0
       → verify_number key run after ≡ 0
-  pub by_key : (key run : List ℕ) (r : Tagged) → Tags (key_cases (length key)) (schedule_of key) run r → number r.outcome ≡ 0
-      → verify_number key run r.tag ≡ 0
-  pub by_schedule : (s : Schedule) (run : List ℕ) (r : Tagged) → Tags (rounds_cases s.rounds) s run r → number r.outcome ≡ 0
-      → verify_number_under s run r.tag ≡ 0
+  pub by_key : (key run : List ℕ) (r : Result (List ℕ) Refusal) → Tags (key_cases (length key)) (schedule_of key) run r
+      → number_in r ≡ 0 → verify_number key run (tag_in r) ≡ 0
+  pub by_schedule : (s : Schedule) (run : List ℕ) (r : Result (List ℕ) Refusal) → Tags (rounds_cases s.rounds) s run r → number_in r ≡ 0
+      → verify_number_under s run (tag_in r) ≡ 0

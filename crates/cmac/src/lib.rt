@@ -2,151 +2,96 @@
 // the message is laid out in blocks; the word-table engine encrypts them.
 #![tactic(auto)]
 
-ghost use Rattle.std.specs.Prelude.{◌≡◌, true, [], ◌∷◌, ◌++◌, ◌-◌, ◌/◌, ◌≤◌, length};
-ghost use Rattle.refusals.specs.Shared.{good_rounds, key_cases, rounds_cases};
+ghost use Rattle.std.specs.Prelude.{◌≡◌, [], ◌∷◌, ◌++◌, ◌≤◌, length};
+ghost use Rattle.refusals.specs.Cases.{first_of};
+ghost use Rattle.refusals.specs.Numbers.{number_in};
+ghost use Rattle.refusals.specs.Shared.{key_cases, rounds_cases};
 ghost use Rattle.blocks.specs.Blocks.{block_of};
 ghost use Rattle.expansion.specs.KeySchedule.{schedule_of};
-ghost use Rattle.cmac.specs.Tag.{tag_under, Tags, verdict_number, verify_number, verify_number_under, WritesTag};
+ghost use Rattle.cmac.specs.Tag.{tag_under, Tags, verify_cases, verify_number, verify_number_under, WritesTag};
 
-use circuit::Schedule;
-use expansion::Outcome;
+use circuit::{GoodSchedule, Schedule};
+use refusals::Refusal;
 
-// An outcome, and beside it the tag: sixteen zero bytes where the outcome is a refusal.
-#[derive(Clone, Copy)]
-pub struct Tagged {
-    pub outcome: Outcome,
-    pub tag: [u8; 16],
-}
-
-// A comparison's answer, the standard's VALID and INVALID (02's yes and no), or a refusal. The papers' numbers are given by
-// `verdict_number`
-// of specs/.
-#[derive(Clone, Copy)]
-pub enum Verdict {
-    Valid,
-    Invalid,
-    KeyLength,
-    RoundCount,
-    TagLength,
-}
-
-// The papers' number of a verdict.
-pub fn number_of(verdict: Verdict) -> u32
-    ensures { result ≡ verdict_number verdict }
-{
-    match verdict {
-        Verdict::Valid => 0,
-        Verdict::Invalid => 25,
-        Verdict::KeyLength => 1,
-        Verdict::RoundCount => 3,
-        Verdict::TagLength => 23,
-    }
-}
-
-// How many blocks stand before the last one of n bytes.
-fn blocks_before(n: usize) -> usize
-    ensures { result ≡ (n - 1) / 16 }
-{
-    if n == 0 {
-        return 0;
-    }
-    (n - 1) / 16
-}
-
-// The last of a message as a block: filled with a byte 80 and zero bytes where it is less than one. Behind sixteen bytes there is no room
-// for the byte 80, and nothing is put.
+// The last of a message as a block: filled with a byte 80 and zero bytes where it is less than one.
+#[tactic(auto, using(crate::proofs::Generation::filled_short, crate::proofs::Generation::filled_full))]
 fn filled(part: &[u8]) -> [u8; 16]
     requires { length part.now ≤ 16 }
     ensures { result ≡ block_of (part.now ++ 0x80 ∷ []) }
 {
-    let mark = [0x80u8];
     let mut out = blocks::load(part);
-    octets::put(&mut out, part.len(), &mark);
+    if part.len() < 16 {
+        out[part.len()] = 0x80;
+    }
     out
 }
 
 // The tag of a run under a good schedule.
-fn mac(schedule: Schedule, run: &[u8]) -> [u8; 16]
-    requires { good_rounds schedule.rounds ≡ true }
-    ensures { result ≡ tag_under schedule run.now }
+pub fn tag_good(schedule: GoodSchedule, run: &[u8]) -> [u8; 16]
+    ensures { result ≡ tag_under schedule.schedule run.now }
 {
-    let end = 16 * blocks_before(run.len());
-    let last = octets::part(run, end, 16);
-    let complete = last.len() == 16;
-    tables::chain(schedule, octets::part(run, 0, end), filled(last), complete).block
+    let end = run.len().saturating_sub(1) / 16 * 16;
+    let (front, last) = run.split_at(end);
+    tables::chain(schedule.schedule, front, filled(last), last.len() == 16).unwrap()
 }
 
-// The tag of a run under a schedule: ready, or 3.
-pub fn tag_under(schedule: Schedule, run: &[u8]) -> Tagged
+// The tag of a run under a schedule; refusal 3.
+#[tactic(auto, using(crate::proofs::Answers::tags_refused))]
+pub fn tag_under(schedule: Schedule, run: &[u8]) -> Result<[u8; 16], Refusal>
     ensures { Tags (rounds_cases schedule.rounds) schedule run.now result }
 {
-    if refusals::rounds(schedule.rounds) != 0 {
-        return Tagged {
-            outcome: Outcome::RoundCount,
-            tag: [0u8; 16],
-        };
-    }
-    Tagged {
-        outcome: Outcome::Ready,
-        tag: mac(schedule, run),
-    }
+    Ok(tag_good(GoodSchedule::try_from(schedule)?, run))
 }
 
-// The tag of a run under a key: ready, or 1.
-pub fn tag(key: &[u8], run: &[u8]) -> Tagged
+// The tag of a run under a key; refusal 1.
+#[tactic(auto, using(crate::proofs::Answers::tags_refused, crate::proofs::Answers::tags_done))]
+pub fn tag(key: &[u8], run: &[u8]) -> Result<[u8; 16], Refusal>
     ensures { Tags (key_cases (length key.now)) (schedule_of key.now) run.now result }
 {
-    let prepared = preparation::prepare(key);
-    let outcome = prepared.outcome;
-    let Outcome::Ready = outcome else {
-        return Tagged {
-            outcome,
-            tag: [0u8; 16],
-        };
-    };
-    tag_under(prepared.schedule, run)
+    Ok(tag_good(preparation::prepare(key)?, run))
 }
 
-// Writes the tag of a run under a key into a lent tag: 0, or 1 or 23, which leave the lent tag as it was.
-pub fn tag_into(key: &[u8], run: &[u8], tag: &mut [u8]) -> u32
-    ensures { WritesTag key.now run.now tag.old result tag.new }
+// Writes the tag of a run under a key into a lent tag; refusals 1 and 23 leave the lent tag as it was.
+#[tactic(auto, using(crate::proofs::Answers::writes_key, refusals::proofs::Numbers::number_some))]
+pub fn tag_into(key: &[u8], run: &[u8], tag: &mut [u8]) -> Result<(), Refusal>
+    ensures { WritesTag key.now run.now tag.old (number_in result) tag.new }
 {
-    let prepared = preparation::prepare(key);
-    let outcome = prepared.outcome;
-    let Outcome::Ready = outcome else {
-        return expansion::number_of(outcome);
-    };
+    let schedule = preparation::prepare(key)?;
+    if tag.len() == 16 {
+        blocks::store(tag_good(schedule, run), tag);
+        Ok(())
+    } else {
+        Err(Refusal::TagLength)
+    }
+}
+
+// Whether a lent tag is that of a run under a good schedule: refusals 23 and, where it differs, 25. All its bytes are looked at, whichever
+// differ.
+#[tactic(auto, using(crate::proofs::Answers::good_23, crate::proofs::Answers::good_25, crate::proofs::Answers::good_0))]
+pub fn verify_good(schedule: GoodSchedule, run: &[u8], tag: &[u8]) -> Result<(), Refusal>
+    ensures { number_in result ≡ first_of (verify_cases [] schedule.schedule run.now tag.now) }
+{
     if tag.len() != 16 {
-        return 23;
+        return Err(Refusal::TagLength);
     }
-    blocks::store(mac(prepared.schedule, run), tag);
-    0
+    if !blocks::equal(tag_good(schedule, run), blocks::load(tag)) {
+        return Err(Refusal::TagDiffers);
+    }
+    Ok(())
 }
 
-// Whether a lent tag is that of a run under a schedule: valid, invalid, 3 or 23. All its bytes are looked at, whichever differ.
-pub fn verify_under(schedule: Schedule, run: &[u8], tag: &[u8]) -> Verdict
-    ensures { verdict_number result ≡ verify_number_under schedule run.now tag.now }
+// Whether a lent tag is that of a run under a schedule: refusal 3, then 23 and 25.
+#[tactic(auto, using(crate::proofs::Answers::refused_first))]
+pub fn verify_under(schedule: Schedule, run: &[u8], tag: &[u8]) -> Result<(), Refusal>
+    ensures { number_in result ≡ verify_number_under schedule run.now tag.now }
 {
-    if refusals::rounds(schedule.rounds) != 0 {
-        return Verdict::RoundCount;
-    }
-    if tag.len() != 16 {
-        return Verdict::TagLength;
-    }
-    if !blocks::equal(mac(schedule, run), blocks::load(tag)) {
-        return Verdict::Invalid;
-    }
-    Verdict::Valid
+    verify_good(GoodSchedule::try_from(schedule)?, run, tag)
 }
 
-// Whether a lent tag is that of a run under a key: valid, invalid, 1 or 23.
-pub fn verify(key: &[u8], run: &[u8], tag: &[u8]) -> Verdict
-    ensures { verdict_number result ≡ verify_number key.now run.now tag.now }
+// Whether a lent tag is that of a run under a key: refusal 1, then 23 and 25.
+#[tactic(auto, using(crate::proofs::Answers::refused_first))]
+pub fn verify(key: &[u8], run: &[u8], tag: &[u8]) -> Result<(), Refusal>
+    ensures { number_in result ≡ verify_number key.now run.now tag.now }
 {
-    let prepared = preparation::prepare(key);
-    let outcome = prepared.outcome;
-    let Outcome::Ready = outcome else {
-        return Verdict::KeyLength;
-    };
-    verify_under(prepared.schedule, run, tag)
+    verify_good(preparation::prepare(key)?, run, tag)
 }

@@ -1,4 +1,4 @@
 pub mod Streams
-pub mod Keystream
+pub mod Counters
 pub mod Applied
 pub mod Laws

@@ -1,17 +1,19 @@
 -- Laws of the digits that a number is written in: one at a time, how many there are, and their value.
 -- Assumes nothing.
 use mathlib.Core.Path.{◌≡◌, refl, sym, ap, ◌∙◌}
-use mathlib.Core.Bool.{Bool, true, false}
+use mathlib.Core.Bool.{Bool, true, false, cond, ◌&&◌}
 use mathlib.Core.Logic.{◌⊎◌, inl, inr, ⊎_elim}
 use mathlib.Core.List.{List, [], ◌∷◌, ◌++◌}
 use Prim.Native.Nat.{ℕ, zero, suc, ◌+◌, ◌*◌, ◌/◌, ◌%◌, ◌≤◌, ◌<◌}
-use native.Mathlib.Nat.{eq-or-lt_of_le, not-suc-le-zero}
+use native.Mathlib.Nat.{eq-or-lt_of_le, not-suc-le-zero, le_of_suc-le-suc}
 use native.Mathlib.Omega.{arith}
 use lib.Dec.{ltb}
-use lib.ListN.{length, get_or, length-append, get_or-append}
+use lib.ListN.{length, get_or, take, length-append, get_or-append, get_or-eq_default}
+use Rattle.std.specs.List.{list_all}
+use Rattle.octets.specs.Below.{all_below}
 use lib.Seq.{get_or_at}
 use borrow.Author.Tests.{ltb-true, ltb-false, lt-ltb, le-ltb, le-leb}
-use Rattle.octets.proofs.Below.{all_yes}
+use Rattle.octets.proofs.Below.{all_yes, all_no}
 use Rattle.decimal.specs.Decimal.{is_digit, all_digits, digits_in, decimal_digits}
 use Rattle.decimal.specs.Word.{value_of}
 use Rattle.decimal.proofs.Values.{value_last}
@@ -94,6 +96,24 @@ decimal_value_lem n = valued (suc n) n (omega arith)
         let rest : value_of (digits_in steps (n / 10)) ≡ n / 10 = valued steps (n / 10) (omega arith) in
         ap value_of (digits_more steps n l) ∙ value_last (digits_in steps (n / 10)) (48 + n % 10) ∙ omega arith)
         (size n)
+
+-- ---- the first bytes that are digits
+
+-- of bytes that are all there, and where one is missing
+pub all_front : (s : List ℕ) (n : ℕ) → n ≤ length s → list_all is_digit (take n s) ≡ all_digits s n
+unfolding all_below
+all_front s zero h = refl
+all_front [] (suc n) h = absurd (not-suc-le-zero h)
+all_front (x ∷ s) (suc n) h = after (is_digit x) (all_front s n (le_of_suc-le-suc h))
+  where
+    after : (b : Bool) → list_all is_digit (take n s) ≡ all_digits s n → (b && list_all is_digit (take n s)) ≡ cond b (all_digits s n) false
+    after true e = e
+    after false e = refl
+
+pub all_short : (s : List ℕ) (n : ℕ) → length s < n → false ≡ all_digits s n
+all_short s n h =
+    let end : length s ≤ length s = omega arith in
+    sym (all_no _ n (length s) h (ap is_digit (get_or-eq_default s 0 end)))
 
 -- ---- they are digits
 

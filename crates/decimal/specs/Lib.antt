@@ -1,4 +1,3 @@
 pub mod Decimal
 pub mod Word
 pub mod Laws
-pub mod Internal

@@ -1,14 +1,18 @@
 -- The cases of a directory: which numbers they have, and that of the bytes after the last body.
 -- Assumes nothing.
-use mathlib.Core.Path.{◌≡◌, refl}
+use mathlib.Core.Path.{◌≡◌, refl, sym, ◌∙◌}
 use mathlib.Core.Bool.{Bool, true, not, ◌&&◌}
 use mathlib.Core.List.{List}
-use Prim.Native.Nat.{ℕ}
+use Prim.Native.Nat.{ℕ, ◌<◌}
 use borrow.Author.Tests.{eq-eqb, ne_eqb, eqb-true, not-false}
 use lib.Dec.{eqb}
 use Rattle.refusals.specs.Cases.{first_of, item_by_item, positive, lacks}
 use Rattle.refusals.proofs.Booleans.{both_true}
-use Rattle.refusals.proofs.Cases.{clear, one_applies, one_passes, positive_append, lacks_append, items_positive, items_lacks}
+use Rattle.refusals.proofs.Cases.{clear, one_applies, one_passes, first_stop, first_pass, positive_append, lacks_append}
+use Rattle.refusals.proofs.Cases.{items_positive, items_lacks, items_stop, items_pass}
+use Rattle.refusals.proofs.Numbers.{number_some}
+use Rattle.refusals.specs.Numbers.{number}
+use Rattle.refusals.specs.declared.Refusal.{Refusal}
 use Rattle.directory.specs.Entries.{entries}
 use Rattle.directory.specs.Check.{body_from, entry_cases_by, rest_cases, directory_cases_by}
 
@@ -68,3 +72,20 @@ module _ (order : List ℕ → ℕ) (d : List ℕ) (from limit : ℕ) where
       lacks_append m (item_by_item (entry_cases_by order d from limit) (entries d)) _
       (items_lacks m (entry_cases_by order d from limit) (entries d) (entry_lacks m h.0))
       (rest_lacks d from limit m h.1)
+
+  -- ---- entry by entry, and then what remains
+
+  -- no entry before i has a case
+  abbrev pub Passed : ℕ → Type 0
+  Passed i = (k : ℕ) → k < i → first_of (entry_cases_by order d from limit k) ≡ 0
+
+  pub entry_refused : (i : ℕ) (e : Refusal) → Passed i → i < entries d → number e ≡ first_of (entry_cases_by order d from limit i)
+      → number e ≡ first_of (directory_cases_by order d from limit)
+  unfolding directory_cases_by
+  entry_refused i e h l q =
+      let here = items_stop (entry_cases_by order d from limit) (entries d) i entry_positive l h (λ z. number_some e (q ∙ z)) in
+      q ∙ sym here ∙ sym (first_stop _ _ (λ z. number_some e (q ∙ sym here ∙ z)))
+
+  pub rest_left : Passed (entries d) → first_of (rest_cases d from limit) ≡ first_of (directory_cases_by order d from limit)
+  unfolding directory_cases_by
+  rest_left h = sym (first_pass _ _ entries_positive (items_pass (entry_cases_by order d from limit) (entries d) entry_positive h))

@@ -3,82 +3,62 @@
 // A refusal goes to standard error, so that a shell can never take one for an archive, and so does what goes wrong outside the archive.
 #![tactic(auto)]
 
-ghost use Rattle.std.specs.Prelude.{◌≡◌, ◌≤◌};
+ghost use Rattle.std.specs.Prelude.{◌≡◌, ◌≤◌, IfSome};
 ghost use Rattle.drop.specs.Words.{asks_preview, words_before, slot_of};
 
-use dropping::Dropped;
+use programs::Failure;
 use std::io::IsTerminal;
 
 fn print_usage(rt: &HostRuntime) {
-    outputs::write_all(&rt.stderr(), b"usage: drop NUMBER.. < ARCHIVE > SMALLER\n");
-    outputs::write_all(
+    let _ = outputs::write_all(&rt.stderr(), b"usage: drop NUMBER.. < ARCHIVE > SMALLER\n");
+    let _ = outputs::write_all(
         &rt.stderr(),
         b"drops these jobs, 1 to 64 numbers of eight digits, and writes the archive without them, ",
     );
-    outputs::write_all(&rt.stderr(), b"under key.bin and, if there, tag.bin\n");
+    let _ = outputs::write_all(&rt.stderr(), b"under key.bin and, if there, tag.bin\n");
 }
 
-// Writes the line of a refusal.
-fn print_refusal(rt: &HostRuntime, n: u32) {
-    let line = listing::refusal(n);
-    let text = line.text;
-    let length = line.length;
-    outputs::write_all(&rt.stderr(), &text[..length]);
-}
-
-fn write_out(rt: &HostRuntime, bytes: &[u8]) {
-    if !outputs::write_all(&rt.stdout(), bytes) {
-        outputs::write_all(&rt.stderr(), b"drop: could not write\n");
-    }
-}
-
-// Drops the jobs of the list and writes the new archive, or the refusal.
-fn write_archive(rt: &HostRuntime, key: &[u8], tag_key: &[u8], file: &[u8], list: &[u8]) {
+// Drops the jobs of the list and writes the new archive.
+fn write_archive(
+    rt: &HostRuntime,
+    key: &[u8],
+    tag_key: &[u8],
+    file: &[u8],
+    list: &[u8],
+) -> Result<(), Failure> {
     // no archive is longer
     let mut smaller = [0u8; 65536];
-    let dropped = dropping::drop(key, tag_key, file, list, &mut smaller);
-    match dropped {
-        Dropped::Refused(n) => print_refusal(rt, n),
-        Dropped::Bytes(n) => write_out(rt, &smaller[..n]),
-    }
+    let n = dropping::drop(key, tag_key, file, list, &mut smaller)?;
+    outputs::write_all(&rt.stdout(), &smaller[..n])?;
+    Ok(())
 }
 
-// Prints the jobs that dropping those of the list would leave, or the refusal.
-fn print_preview(rt: &HostRuntime, key: &[u8], tag_key: &[u8], file: &[u8], list: &[u8]) {
-    let left = preview_listing::list_left(key, tag_key, file, list);
-    let listing = left.listing;
-    let text = listing.text;
-    let length = listing.length;
-    if left.number != 0 {
-        outputs::write_all(&rt.stderr(), &text[..length]);
-        return;
-    }
-    write_out(rt, &text[..length]);
+// Prints the jobs that dropping those of the list would leave.
+fn print_preview(
+    rt: &HostRuntime,
+    key: &[u8],
+    tag_key: &[u8],
+    file: &[u8],
+    list: &[u8],
+) -> Result<(), Failure> {
+    let left = preview_listing::list_left(key, tag_key, file, list).map_err(
+        |refused| refused.refusal,
+    )?;
+    outputs::write_all(&rt.stdout(), &left)?;
+    Ok(())
 }
 
 // Reads the keys and the archive, and drops the jobs of the list, or shows what that would leave.
-fn drop_listed(rt: &HostRuntime, preview: bool, list: &[u8]) {
-    // a hint for who waits at a terminal; it changes nothing that follows
-    if rt.stdin().is_terminal() {
-        print_usage(rt);
-    }
-    // one byte more than the longest key, so that a file which is longer, or cannot be read, is no key
-    let mut key = [0u8; 33];
-    let k = inputs::named_file(rt, b"key.bin", &mut key);
-    let mut tag_key = [0u8; 33];
-    let t = inputs::named_file(rt, b"tag.bin", &mut tag_key);
+fn drop_listed(rt: &HostRuntime, preview: bool, list: &[u8]) -> Result<(), Failure> {
+    let key = programs::key_file(rt, b"key.bin");
+    let tag_key = programs::key_file(rt, b"tag.bin");
     // one byte more than the longest archive
     let mut file = [0u8; 65537];
-    let input = inputs::standard_input(rt, &mut file);
-    if input.failed {
-        outputs::write_all(&rt.stderr(), b"drop: could not read\n");
-        return;
-    }
-    let n = input.length;
+    let n = inputs::standard_input(rt, &mut file)?;
     if preview {
-        return print_preview(rt, &key[..k], &tag_key[..t], &file[..n], list);
+        return print_preview(rt, &key, &tag_key, &file[..n], list);
     }
-    write_archive(rt, &key[..k], &tag_key[..t], &file[..n], list);
+    write_archive(rt, &key, &tag_key, &file[..n], list)
 }
 
 // Whether a word asks for the preview.
@@ -100,14 +80,12 @@ fn preview_asked(rt: &HostRuntime) -> bool {
 fn words_before(preview: bool) -> usize
     ensures { result ≡ words_before preview }
 {
-    if preview {
-        return 2;
-    }
-    1
+    if preview { 2 } else { 1 }
 }
 
 // The eight bytes of the list that a word becomes: the word, or where it has another length zero bytes, which are no job number. So each
 // word has a place of its own, and words that run together can name no job.
+#[tactic(auto, using(octets::proofs::Parts::overwritten_whole), unfolding(crate::specs::Words::slot_of))]
 fn slot(word: &[u8]) -> [u8; 8]
     ensures { result ≡ slot_of word.now }
 {
@@ -126,45 +104,39 @@ fn slot_at(rt: &HostRuntime, i: usize) -> [u8; 8] {
     slot(&word[..n])
 }
 
-// Puts so many words from word `first` on into the list, eight bytes each.
-fn fill_from(rt: &HostRuntime, list: &mut [u8], first: usize, words: usize)
-    requires { (first ≤ 2) × (words ≤ 64) }
+// How many words from word `first` on the program was started with: 1 to 64, since no archive has more jobs.
+fn numbers_from(rt: &HostRuntime, first: usize) -> Option<usize>
+    ensures { IfSome result (λ n. n ≤ 64) }
 {
-    let mut k: usize = 0;
-    while k < words {
-        octets::put(list, 8 * k, &slot_at(rt, first + k));
-        k += 1;
+    let words = inputs::word_count(rt).checked_sub(first)?;
+    if words == 0 || 64 < words {
+        return None;
     }
+    Some(words)
 }
 
-// Puts the words from the first on into the list, eight bytes each.
-fn fill(rt: &HostRuntime, list: &mut [u8], words: usize)
-    requires { words ≤ 64 }
+// Puts so many words from word `first` on into the list, eight bytes each.
+fn fill(rt: &HostRuntime, list: &mut [u8], first: usize, words: usize)
+    requires { (first ≤ 2) × (words ≤ 64) }
 {
-    fill_from(rt, list, 1, words);
+    for k in 0..words {
+        octets::put(list, 8 * k, &slot_at(rt, first + k));
+    }
 }
 
 fn main(rt: HostRuntime) {
-    let arguments = inputs::word_count(&rt);
-    if arguments < 2 {
-        return print_usage(&rt);
-    }
     let preview = preview_asked(&rt);
     let first = words_before(preview);
-    if arguments <= first {
+    let Some(words) = numbers_from(&rt, first) else {
         return print_usage(&rt);
-    }
-    let words = arguments - first;
-    // no archive has more jobs
-    if 64 < words {
-        return print_usage(&rt);
-    }
+    };
     let mut list = [0u8; 512];
-    let end = 8 * words;
-    if preview {
-        fill_from(&rt, &mut list, first, words);
-    } else {
-        fill(&rt, &mut list, words);
+    fill(&rt, &mut list, first, words);
+    // a hint for who waits at a terminal; it changes nothing that follows
+    if rt.stdin().is_terminal() {
+        print_usage(&rt);
     }
-    drop_listed(&rt, preview, &list[..end]);
+    if let Err(failure) = drop_listed(&rt, preview, &list[..8 * words]) {
+        let _ = outputs::write_all(&rt.stderr(), &failure.text(*b"drop"));
+    }
 }

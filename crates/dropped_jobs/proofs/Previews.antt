@@ -7,12 +7,15 @@ use Prim.Native.Nat.{ℕ, zero, suc, ◌+◌, ◌*◌, ◌≤◌}
 use native.Mathlib.Omega.{arith}
 use borrow.Author.Tests.{ne_eqb}
 use lib.Dec.{eqb}
+use Rattle.std.specs.Prelude.{Result}
 use lib.ListN.{length, take, drop}
 use lib.Seq.{take_at, drop_at}
 use Rattle.refusals.specs.Cases.{first_of}
 use Rattle.refusals.specs.Answers.{Answer, refused, gives, answer, part_for, unless_refused}
 use Rattle.refusals.proofs.Cases.{first_stop, first_none, first_lacks}
 use Rattle.refusals.proofs.Answers.{answer_none, answer_number, answer_first}
+use Rattle.refusals.specs.declared.Refusal.{Refusal}
+use Rattle.refusals.specs.Numbers.{number_in}
 use Rattle.header.specs.Fields.{layout_under, tag_size, count_of, length_of, directory_of}
 use Rattle.archive.specs.Check.{check_of, directory_given}
 use Rattle.codec.specs.Jobs.{Job, bodies_in, directory_from}
@@ -21,7 +24,7 @@ use Rattle.codec.proofs.JobLaws.{each_map, directory_length}
 use Rattle.codec.proofs.Numbering.{job_eight}
 use Rattle.codec.proofs.Built.{built_directory}
 use Rattle.dropping.specs.Drop.{jobs_left, dropped_file, length_left, asked_cases, drop_cases, Drops}
-use Rattle.dropping.specs.Preview.{count_left, directory_left, preview_cases, Previews}
+use Rattle.dropping.specs.Preview.{count_in, length_in, count_left, directory_left, preview_cases, Previews}
 use Rattle.dropping.specs.declared.Previewed.{Previewed}
 use Rattle.dropping.proofs.Cases.{asked_positive, asked_lacks, before_room, room_fits, room_short}
 use Rattle.dropped_jobs.specs.Previews.{PreviewIsDrop, PreviewAccepts, PreviewRefuses, PreviewAll, PreviewBounds}
@@ -52,44 +55,46 @@ module _ (key tag_key file list : List ℕ) (none : first_of (asked_cases key ta
 
 -- ---- what a preview says that is no refusal
 
-module _ (key tag_key file list held : List ℕ) (r : Previewed) (seen : List ℕ) (p : Previews key tag_key file list held r seen)
-    (z : r.number ≡ 0) where
+module _ (key tag_key file list held : List ℕ) (r : Result Previewed Refusal) (seen : List ℕ)
+    (p : Previews key tag_key file list held r seen)
+    (z : number_in r ≡ 0) where
   pub preview_asked : first_of (asked_cases key tag_key file list) ≡ 0
   unfolding preview_cases
   preview_asked = (first_none (asked_cases key tag_key file list) _ (asked_positive key tag_key file list) (sym p.number ∙ z)).0
 
-  pub said_count : r.count ≡ count_left file list
+  pub said_count : count_in r ≡ count_left file list
   said_count = p.counted ∙ ap (λ (n : ℕ). cond (eqb n 0) (count_left file list) 0) z
 
-  pub said_length : r.length ≡ length_left tag_key file list
+  pub said_length : length_in r ≡ length_left tag_key file list
   said_length = p.sized ∙ ap (λ (n : ℕ). cond (eqb n 0) (length_left tag_key file list) 0) z
 
-  sixteen : length (directory_left file list) ≡ 16 * r.count
+  sixteen : length (directory_left file list) ≡ 16 * count_in r
   sixteen = left_sixteen key tag_key file list preview_asked ∙ ap (λ (n : ℕ). 16 * n) (sym said_count)
 
   written : seen ≡ directory_left file list ++ drop (length (directory_left file list)) held
   written =
       p.bytes ∙ ap (λ (n : ℕ). unless_refused n (directory_left file list ++ drop (length (directory_left file list)) held) held) z
 
-  pub seen_front : take (16 * r.count) seen ≡ directory_left file list
-  seen_front = ap (take (16 * r.count)) written ∙ take_at (directory_left file list) _ (16 * r.count) sixteen
+  pub seen_front : take (16 * count_in r) seen ≡ directory_left file list
+  seen_front = ap (take (16 * count_in r)) written ∙ take_at (directory_left file list) _ (16 * count_in r) sixteen
 
-  pub seen_rest : drop (16 * r.count) seen ≡ drop (16 * r.count) held
+  pub seen_rest : drop (16 * count_in r) seen ≡ drop (16 * count_in r) held
   seen_rest =
-      ap (drop (16 * r.count)) written
-      ∙ drop_at (directory_left file list) _ (16 * r.count) sixteen
+      ap (drop (16 * count_in r)) written
+      ∙ drop_at (directory_left file list) _ (16 * count_in r) sixteen
       ∙ ap (λ (n : ℕ). drop n held) sixteen
 
 -- what one says that is
 
-pub preview_silent : (key tag_key file list held : List ℕ) (r : Previewed) (seen : List ℕ) → Previews key tag_key file list held r seen
-    → (r.number ≡ 0 → ⊥) → (r.count ≡ 0) × (r.length ≡ 0) × (seen ≡ held)
-preview_silent key tag_key file list held r seen p some = by_number r.number some p.counted p.sized p.bytes
+pub preview_silent : (key tag_key file list held : List ℕ) (r : Result Previewed Refusal) (seen : List ℕ)
+    → Previews key tag_key file list held r seen
+    → (number_in r ≡ 0 → ⊥) → (count_in r ≡ 0) × (length_in r ≡ 0) × (seen ≡ held)
+preview_silent key tag_key file list held r seen p some = by_number (number_in r) some p.counted p.sized p.bytes
   where
-    by_number : (n : ℕ) → (n ≡ 0 → ⊥) → r.count ≡ cond (eqb n 0) (count_left file list) 0
-        → r.length ≡ cond (eqb n 0) (length_left tag_key file list) 0
+    by_number : (n : ℕ) → (n ≡ 0 → ⊥) → count_in r ≡ cond (eqb n 0) (count_left file list) 0
+        → length_in r ≡ cond (eqb n 0) (length_left tag_key file list) 0
         → seen ≡ unless_refused n (directory_left file list ++ drop (length (directory_left file list)) held) held
-        → (r.count ≡ 0) × (r.length ≡ 0) × (seen ≡ held)
+        → (count_in r ≡ 0) × (length_in r ≡ 0) × (seen ≡ held)
     by_number zero some c l b = absurd (some refl)
     by_number (suc n) some c l b =
         let test = ne_eqb (suc n) 0 some in (
@@ -183,7 +188,7 @@ preview_all key tag_key file list held count r seen e whole borne all p =
     let none = none_left file list all in
     let sixteen = left_sixteen key tag_key file list asked in
     let nothing : count_left file list ≡ 0 = ap (λ (js : List Job). length js) none in
-    let z : r.number ≡ 0 =
+    let z : number_in r ≡ 0 =
     p.number ∙ room_fits key tag_key file list (length (directory_left file list)) (length held) asked (omega arith) in
     let laid = (good_header key tag_key file list asked).laid in (
       z,
@@ -198,7 +203,7 @@ preview_all key tag_key file list held count r seen e whole borne all p =
 
 pub preview_bounds : PreviewBounds
 unfolding preview_cases
-preview_bounds key tag_key file list held r seen p = by_number r.number refl
+preview_bounds key tag_key file list held r seen p = by_number (number_in r) refl
   where
     -- at most 64 jobs are left, in an archive of at most 65,536 bytes
     fine : first_of (asked_cases key tag_key file list) ≡ 0
@@ -207,7 +212,7 @@ preview_bounds key tag_key file list held r seen p = by_number r.number refl
         let f = leaves.fine key tag_key file list asked in
         (f.few, f.small, omega (arith, left_sixteen key tag_key file list asked, f.few))
 
-    by_number : (n : ℕ) → r.number ≡ n → (r.count ≤ 64) × (r.length ≤ 65536) × (1024 ≤ length held → r.number ≡ 20 → ⊥)
+    by_number : (n : ℕ) → number_in r ≡ n → (count_in r ≤ 64) × (length_in r ≤ 65536) × (1024 ≤ length held → number_in r ≡ 20 → ⊥)
     by_number zero z =
         let f = fine (preview_asked key tag_key file list held r seen p z) in (
           omega (arith, said_count key tag_key file list held r seen p z),
@@ -221,7 +226,7 @@ preview_bounds key tag_key file list held r seen p = by_number r.number refl
           λ l q. wide (first_of (asked_cases key tag_key file list)) refl l q,
         )
       where
-        wide : (k : ℕ) → first_of (asked_cases key tag_key file list) ≡ k → 1024 ≤ length held → r.number ≡ 20 → ⊥
+        wide : (k : ℕ) → first_of (asked_cases key tag_key file list) ≡ k → 1024 ≤ length held → number_in r ≡ 20 → ⊥
         wide zero z l q =
             let f = fine z in
             let none = p.number ∙ room_fits key tag_key file list (length (directory_left file list)) (length held) z (omega arith) in

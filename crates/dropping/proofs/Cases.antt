@@ -8,6 +8,9 @@ use native.Mathlib.Omega.{arith}
 use borrow.Author.Tests.{lt-ltb, le-ltb}
 use Rattle.refusals.specs.Cases.{Case, when, first_of, positive, lacks}
 use Rattle.refusals.proofs.Cases.{one_applies, one_passes, first_stop, first_pass, first_none, positive_append, lacks_append}
+use Rattle.refusals.specs.declared.Refusal.{Refusal}
+use Rattle.refusals.specs.Numbers.{number}
+use Rattle.refusals.proofs.Numbers.{number_some}
 use Rattle.jobnumber.specs.Number.{order_of}
 use Rattle.admission.specs.Check.{check_cases}
 use Rattle.admission.proofs.Checking.{check_positive, check_lacks}
@@ -22,9 +25,10 @@ module _ (key tag_key file list : List ℕ) where
   asked_positive = positive_append (check_cases key tag_key file) _ (check_positive order_of key tag_key file) (list_positive file list)
 
   -- a case of the archive
-  pub asked_check : (n : ℕ) → (n ≡ 0 → ⊥) → n ≡ first_of (check_cases key tag_key file) → n ≡ first_of (asked_cases key tag_key file list)
+  pub asked_refused : (e : Refusal) → number e ≡ first_of (check_cases key tag_key file)
+      → number e ≡ first_of (asked_cases key tag_key file list)
   unfolding asked_cases
-  asked_check n some e = e ∙ sym (first_stop (check_cases key tag_key file) (list_cases file list) (λ q. some (e ∙ q)))
+  asked_refused e is = is ∙ sym (first_stop (check_cases key tag_key file) (list_cases file list) (λ q. number_some e (is ∙ q)))
 
   -- none of the archive: the list's
   pub asked_list : first_of (check_cases key tag_key file) ≡ 0

@@ -1,6 +1,6 @@
 pub mod Cases
 pub mod Without
-pub mod Left
+pub mod Entries
 pub mod Passed
 pub mod Ways
 pub mod Previewing

@@ -1,23 +1,23 @@
--- What is known once an archive and a list have no case: the file is whole, the marks leave the jobs that the list leaves, and in layout 2
--- the tag key's schedule is good.
+-- What is known once an archive and a list have no case: the file is whole, the marks leave the jobs that the list leaves, and the layout
+-- is that of the tag key's schedule.
 -- Assumes nothing.
 use mathlib.Core.Path.{◌≡◌, refl, sym, ap, ap₂, ◌∙◌}
-use mathlib.Core.Bool.{Bool, true, false, cond}
+use mathlib.Core.Bool.{Bool, false, cond}
 use mathlib.Core.List.{List, [], ◌∷◌, ◌++◌}
 use Prim.Native.Nat.{ℕ, zero, suc, ◌<◌, ◌≤◌}
 use native.Mathlib.Omega.{arith}
+use borrow.Author.Tests.{eq-eqb, ne_eqb}
+use Rattle.std.specs.Prelude.{Option, Some, None}
 use lib.ListN.{length, get_or, take}
 use lib.Seq.{take-length}
 use Rattle.refusals.specs.Cases.{first_of}
-use Rattle.refusals.specs.Shared.{good_rounds}
 use Rattle.octets.proofs.Tables.{values_length, values_at}
 use Rattle.expansion.specs.KeySchedule.{schedule_of}
 use Rattle.header.specs.Fields.{layout_of, layout_under, count_of}
-use Rattle.header.proofs.Layouts.{layout_1}
 use Rattle.header.proofs.Accepted as header
 use Rattle.jobnumber.specs.Number.{order_of}
 use Rattle.admission.specs.Check.{key_check, check_cases}
-use Rattle.admission.proofs.Accepted.{accepted_tag_rounds, accepted_header, accepted_entries, accepted_directory}
+use Rattle.admission.proofs.Accepted.{accepted_header, accepted_entries, accepted_directory}
 use Rattle.directory.proofs.Accepted.{sound_directories}
 use Rattle.codec.specs.Jobs.{Job, no_job, job_in}
 use Rattle.codec.specs.Archive.{job_at, jobs_of}
@@ -25,15 +25,17 @@ use Rattle.joblist.specs.List.{numbers, is_listed}
 use Rattle.joblist.specs.Marks.{named_by}
 use Rattle.joblist.proofs.Listed.{marks_listed}
 use Rattle.dropping.specs.Drop.{without, jobs_left, asked_cases}
-use Rattle.dropping.specs.Internal.{left_at, left_of, left_all, Asks, Whole}
-use Rattle.dropping.specs.declared.Asked.{Asked}
+use Rattle.dropping.specs.Internal.{left_at, left_of, left_all, layout_in, Whole}
+use Rattle.circuit.specs.declared.GoodSchedule.{GoodSchedule}
+use Rattle.admission.specs.Check.{IsTagSchedule}
 use Rattle.dropping.proofs.Without.{without_next}
 use Rattle.dropping.proofs.Cases.{asked_stages}
 
--- what was asked and is not refused has no case
-pub passed : {key tag_key file list : List ℕ} {r : Asked} → Asks key tag_key file list r → r.number ≡ 0
-    → first_of (asked_cases key tag_key file list) ≡ 0
-passed asks z = sym asks.number ∙ z
+-- the layout under a tag key, by its schedule
+layout_scheduled : (tag_key : List ℕ) (s : Option GoodSchedule) → IsTagSchedule tag_key s → layout_under tag_key ≡ layout_in s
+unfolding layout_under
+layout_scheduled tag_key None e = rw (eq-eqb (length tag_key) 0 e)
+layout_scheduled tag_key (Some s) h = rw (ne_eqb (length tag_key) 0 h.0)
 
 module _ (key tag_key file list : List ℕ) (none : first_of (asked_cases key tag_key file list) ≡ 0) where
   check : first_of (check_cases key tag_key file) ≡ 0
@@ -47,10 +49,8 @@ module _ (key tag_key file list : List ℕ) (none : first_of (asked_cases key ta
       let good = good_header in
       record { few = good.few; room = omega (arith, good.room); short = good.short }
 
-  pub tag_rounds : layout_of file ≡ 2 → good_rounds (schedule_of tag_key).rounds ≡ true
-  tag_rounds two =
-      accepted_tag_rounds order_of key tag_key file check
-      (λ e. let one = layout_1 tag_key e in let laid = good_header.laid in omega arith)
+  pub file_laid : (s : Option GoodSchedule) → IsTagSchedule tag_key s → layout_of file ≡ layout_in s
+  file_laid s h = good_header.laid ∙ layout_scheduled tag_key s h
 
   module _ (named : List Bool) (marked : (i : ℕ) → i < 64 → get_or named i false ≡ named_by file list (numbers list) i) where
     jobs_length : length (jobs_of file) ≡ count_of file

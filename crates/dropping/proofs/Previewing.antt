@@ -1,10 +1,9 @@
 -- The ways out of the preview.
 -- Assumes nothing.
-use mathlib.Core.Path.{◌≡◌, refl, sym, ap, ◌∙◌}
+use mathlib.Core.Path.{◌≡◌, refl, sym, ap, ap₂, ◌∙◌}
 use mathlib.Core.Bool.{Bool, cond}
 use mathlib.Core.List.{List, ◌++◌}
-use Prim.Native.Nat.{ℕ, zero, suc, ◌+◌, ◌*◌, ◌<◌, ◌≤◌}
-use native.Mathlib.Nat.{zero-add}
+use Prim.Native.Nat.{ℕ, ◌+◌, ◌*◌, ◌<◌, ◌≤◌}
 use native.Mathlib.Omega.{arith}
 use borrow.Author.Tests.{lt-ltb, le-ltb, ne_eqb}
 use lib.Dec.{eqb}
@@ -12,7 +11,11 @@ use lib.ListN.{length, drop}
 use Rattle.refusals.specs.Cases.{first_of}
 use Rattle.refusals.specs.Answers.{unless_refused}
 use Rattle.refusals.proofs.Cases.{first_stop, first_pass, one_applies, one_passes}
-use Rattle.octets.specs.Parts.{laid, Lays}
+use Rattle.refusals.specs.declared.Refusal.{Refusal}
+use Rattle.refusals.specs.declared.Refusal.TheVariants.{BufferTooShort}
+use Rattle.refusals.specs.Numbers.{number, number_in}
+use Rattle.refusals.proofs.Numbers.{number_some, refused_leaves}
+use Rattle.std.specs.Prelude.{Result, Ok, Err}
 use Rattle.opening.specs.Open.{room_cases}
 use Rattle.codec.specs.Jobs.{Job, directory_from}
 use Rattle.dropping.specs.Drop.{jobs_left, asked_cases}
@@ -25,57 +28,48 @@ use Rattle.dropping.proofs.Ways.{directory_sixteen, same_length}
 -- ---- by the marks
 
 module _ (named : List Bool) (file before : List ℕ) (whole : Whole file) where
-  pub marked_short : (r : Previewed) → length before < 16 * length (left_all named file)
-      → (r.number ≡ 20) × (r.count ≡ 0) × (r.length ≡ 0) → PreviewsMarked named file before r before
+  pub marked_short : length before < 16 * length (left_all named file) → PreviewsMarked named file before (Err BufferTooShort) before
   unfolding room_cases
-  marked_short r l (number, count, size) =
+  marked_short l =
       let sixteen = directory_sixteen named file whole in
-      let e = one_applies _ 20 (lt-ltb (length before) (length (entries_left named file)) (omega arith)) in
       record {
-        number = number ∙ sym e;
-        counted = count ∙ ap (λ (n : ℕ). cond (eqb n 0) (length (left_all named file)) 0) (sym number);
-        sized = size ∙ ap (λ (n : ℕ). cond (eqb n 0) (whole_left named file) 0) (sym number);
-        bytes =
-            ap (λ (n : ℕ). unless_refused n (entries_left named file ++ drop (length (entries_left named file)) before) before)
-            (sym number);
+        number = sym (one_applies _ 20 (lt-ltb (length before) (length (entries_left named file)) (omega arith)));
+        counted = refl;
+        sized = refl;
+        bytes = refl;
       }
 
-  pub marked_done : (count size r : ℕ) (after : List ℕ) → 16 * length (left_all named file) ≤ length before
-      → count ≡ length (left_all named file) → size ≡ whole_left named file → Lays before 0 (entries_left named file) r after
-      → PreviewsMarked named file before record { number = 0; count = count; length = size } after
-  unfolding room_cases laid
-  marked_done count size r after l c w lays =
+  pub marked_done : (count size : ℕ) (directory : List ℕ) → 16 * count ≤ length before → count ≡ length (left_all named file)
+      → size ≡ whole_left named file → directory ≡ entries_left named file
+      → PreviewsMarked named file before (Ok record { count = count; length = size }) (directory ++ drop (16 * count) before)
+  unfolding room_cases
+  marked_done count size directory l c w d =
       let sixteen = directory_sixteen named file whole in
-      let put = lays.put (omega arith) in
       record {
         number = sym (one_passes _ 20 (le-ltb (length before) (length (entries_left named file)) (omega arith)));
         counted = c;
         sized = w;
-        bytes = put.text ∙ ap (λ (n : ℕ). entries_left named file ++ drop n before) (zero-add (length (entries_left named file)));
+        bytes = ap₂ (λ (l : List ℕ) (n : ℕ). l ++ drop n before) d (omega (arith, sixteen, c));
       }
 
 -- ---- by the list
 
 module _ (key tag_key file list before : List ℕ) where
-  pub preview_refused : (n : ℕ) (r : Previewed) → (n ≡ 0 → ⊥) → n ≡ first_of (asked_cases key tag_key file list)
-      → (r.number ≡ n) × (r.count ≡ 0) × (r.length ≡ 0) → Previews key tag_key file list before r before
+  pub preview_refused : (e : Refusal) → number e ≡ first_of (asked_cases key tag_key file list)
+      → Previews key tag_key file list before (Err e) before
   unfolding preview_cases
-  preview_refused n r some e (number, count, size) =
-      let test = ne_eqb r.number 0 (λ q. some (sym number ∙ q)) in
+  preview_refused e is =
+      let test = ne_eqb (number e) 0 (number_some e) in
       record {
-        number = number ∙ e ∙ sym (first_stop (asked_cases key tag_key file list) _ (λ q. some (e ∙ q)));
-        counted = count ∙ rw test;
-        sized = size ∙ rw test;
-        bytes = refused_bytes r.number (λ q. some (sym number ∙ q));
+        number = is ∙ sym (first_stop (asked_cases key tag_key file list) _ (λ q. number_some e (is ∙ q)));
+        counted = rw test;
+        sized = rw test;
+        bytes = sym (refused_leaves e _ before);
       }
-    where
-      refused_bytes : (m : ℕ) → (m ≡ 0 → ⊥)
-          → before ≡ unless_refused m (directory_left file list ++ drop (length (directory_left file list)) before) before
-      refused_bytes zero h = absurd (h refl)
-      refused_bytes (suc m) h = refl
 
   pub preview_written : first_of (asked_cases key tag_key file list) ≡ 0 → (named : List Bool) → left_all named file ≡ jobs_left file list
-      → (r : Previewed) (after : List ℕ) → PreviewsMarked named file before r after → Previews key tag_key file list before r after
+      → (r : Result Previewed Refusal) (after : List ℕ) → PreviewsMarked named file before r after
+      → Previews key tag_key file list before r after
   unfolding preview_cases directory_left
   preview_written none named left r after p =
       let same : entries_left named file ≡ directory_left file list =
@@ -84,7 +78,7 @@ module _ (key tag_key file list before : List ℕ) where
       (asked_positive key tag_key file list) none in
       record {
         number = p.number ∙ ap (λ (d : List ℕ). first_of (room_cases (length d) (length before))) same ∙ sym pass;
-        counted = p.counted ∙ ap (λ (js : List Job). cond (eqb r.number 0) (length js) 0) left;
-        sized = p.sized ∙ ap (λ (n : ℕ). cond (eqb r.number 0) n 0) (same_length key tag_key file list none named left);
-        bytes = p.bytes ∙ ap (λ (d : List ℕ). unless_refused r.number (d ++ drop (length d) before) before) same;
+        counted = p.counted ∙ ap (λ (js : List Job). cond (eqb (number_in r) 0) (length js) 0) left;
+        sized = p.sized ∙ ap (λ (n : ℕ). cond (eqb (number_in r) 0) n 0) (same_length key tag_key file list none named left);
+        bytes = p.bytes ∙ ap (λ (d : List ℕ). unless_refused (number_in r) (d ++ drop (length d) before) before) same;
       }

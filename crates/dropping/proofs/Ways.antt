@@ -2,24 +2,20 @@
 -- Assumes nothing.
 use mathlib.Core.Path.{◌≡◌, refl, sym, ap, ap₂, ◌∙◌}
 use mathlib.Core.Bool.{Bool, true, false, cond}
-use mathlib.Core.List.{List, [], ◌∷◌, ◌++◌, append-nil}
-use Prim.Native.Nat.{ℕ, zero, suc, ◌+◌, ◌*◌, ◌<◌, ◌≤◌}
+use mathlib.Core.List.{List, [], ◌∷◌, ◌++◌, append_assoc}
+use Prim.Native.Nat.{ℕ, zero, suc, ◌+◌, ◌-◌, ◌*◌, ◌<◌, ◌≤◌}
 use native.Mathlib.Omega.{arith}
-use borrow.Author.Tests.{ltb-false, lt-ltb, le-ltb, eqb-true, eq-eqb, ne_eqb}
-use lib.Dec.{eqb}
-use lib.ListN.{length, get_or, drop, length-append, length-take, length-drop}
+use borrow.Author.Tests.{lt-ltb, le-ltb, eq-eqb, ne_eqb}
+use Rattle.std.specs.Prelude.{Option, Some, None}
+use lib.ListN.{length, get_or, take, drop, length-append, length-take, length-drop}
 use lib.Seq.{length-take-le}
-use Rattle.refusals.specs.Cases.{first_of, positive}
+use Rattle.refusals.specs.Cases.{first_of}
 use Rattle.refusals.specs.Answers.{Answer, refused, gives, answer, written_for}
-use Rattle.refusals.proofs.Booleans.{true_false}
-use Rattle.refusals.proofs.Answers.{answer_none, answer_number, answer_gives, answer_first, refusal_is}
-use Rattle.refusals.proofs.Cases.{clear, first_pass, one_applies, one_passes}
-use Rattle.octets.specs.Parts.{laid, Lays}
+use Rattle.refusals.proofs.Answers.{answer_none, answer_first, refusal_is}
+use Rattle.refusals.proofs.Cases.{first_pass, one_applies, one_passes}
 use Rattle.circuit.specs.declared.Schedule.{Schedule}
-use Rattle.expansion.specs.KeySchedule.{schedule_of}
 use Rattle.cmac.specs.Tag.{tag_under}
 use Rattle.header.specs.Fields.{layout_of, layout_under, tag_size, key_length_of, count_of, archive_number, key_check_of, directory_of}
-use Rattle.header.proofs.Layouts.{tag_16, tag_none}
 use Rattle.header.proofs.Accepted as header
 use Rattle.directory.specs.Entries.{entry_at}
 use Rattle.admission.specs.Check.{tag_bytes}
@@ -31,8 +27,13 @@ use Rattle.codec.proofs.JobLaws.{Eight, directory_length}
 use Rattle.codec.proofs.Parts.{header_length}
 use Rattle.dropping.specs.Drop.{jobs_left, dropped_file, length_left, asked_cases, drop_cases, Drops}
 use Rattle.dropping.specs.Internal.{left_at, left_of, left_all, header_left, entries_left, front_left, tag_in}
-use Rattle.dropping.specs.Internal.{Whole, whole_left, WritesFront, DropsMarked}
-use Rattle.dropping.proofs.Left.{entry_sixteen}
+use Rattle.dropping.specs.Internal.{Whole, whole_left, DropsMarked}
+use Rattle.circuit.specs.declared.GoodSchedule.{GoodSchedule}
+use Rattle.refusals.specs.declared.Refusal.{Refusal}
+use Rattle.refusals.specs.Numbers.{number}
+use Rattle.refusals.proofs.Numbers.{number_some}
+use Rattle.admission.specs.Check.{IsTagSchedule}
+use Rattle.dropping.proofs.Entries.{entry_sixteen, copied_next}
 use Rattle.dropping.proofs.Cases.{asked_positive}
 use Rattle.dropping.proofs.Passed.{good_header}
 
@@ -76,91 +77,51 @@ module _ (named : List Bool) (file : List ℕ) (whole : Whole file) where
   unfolding front_left whole_length
   front_length = simp (length-append, twenty) (omega (arith, directory_sixteen))
 
--- ---- writing all but the tag
+-- ---- writing
 
-module _ (named : List Bool) (file before : List ℕ) where
-  pub front_short : length before < whole_left named file → WritesFront named file before (refused 20) before
+-- header, directory and bodies, each behind the other, are all but the tag
+module _ (named : List Bool) (file before : List ℕ) (whole : Whole file) where
+  pub front_written : (h d b : List ℕ) (from k end m : ℕ)
+      → h ≡ header_left file (length (left_all named file)) (whole_left named file) → d ≡ entries_left named file
+      → b ≡ bodies_in (left_all named file) → from ≡ 20 + 16 * length (left_all named file) → k ≡ from - 20
+      → end ≡ from + length (bodies_in (left_all named file)) → m ≡ end - from → (out : List ℕ)
+      → out ≡ take 20 (h ++ drop 20 before) ++ (d ++ drop k (drop 20 (h ++ drop 20 before)))
+      → (end ≡ length (front_left named file))
+      × (take from out ++ (b ++ drop m (drop from out)) ≡ front_left named file ++ drop end before)
+  unfolding front_left whole_length
+  front_written h d b from k end m eh ed eb ef ek ee em out eo =
+      let header : List ℕ = header_left file (length (left_all named file)) (whole_left named file) in
+      let entries : List ℕ = entries_left named file in
+      let bodies : List ℕ = bodies_in (left_all named file) in
+      let size = twenty named file whole (length (left_all named file)) (whole_left named file) in
+      let sixteen = directory_sixteen named file whole in
+      let second : out ≡ (header ++ entries) ++ drop from before =
+      eo
+      ∙ copied_next (h ++ drop 20 before) header before entries d 20 k (ap (λ (l : List ℕ). l ++ drop 20 before) eh) (sym size)
+      (omega (arith, ek, ef, sixteen)) ed
+      ∙ ap (λ (n : ℕ). (header ++ entries) ++ drop n before) (omega (arith, ef, sixteen))
+      in
+      let third = copied_next out (header ++ entries) before bodies b from m second
+      (omega (arith, length-append header entries, size, sixteen, ef)) (omega (arith, em, ee)) eb in (
+        omega (arith, ee, ef, size, sixteen, length-append header (entries ++ bodies), length-append entries bodies),
+        third
+            ∙ ap₂ (λ (l : List ℕ) (n : ℕ). l ++ drop n before) (append_assoc header entries bodies) (sym ee),
+      )
+
+module _ (s : Option GoodSchedule) (named : List Bool) (file before : List ℕ) where
+  pub marked_short : length before < whole_left named file → DropsMarked s named file before (refused 20) before
   unfolding written_for room_cases
-  front_short l =
+  marked_short l =
       let e = one_applies _ 20 (lt-ltb (length before) (whole_left named file) l) in
       record { answered = refusal_is 20 _ _ (sym e) (λ q. omega arith); bytes = refl }
 
-  pub front_done : Whole file → whole_left named file ≤ length before → (r : ℕ) (after : List ℕ)
-      → Lays before 0 (front_left named file) r after → WritesFront named file before (gives r) after
-  unfolding written_for room_cases laid
-  front_done whole l r after lays =
-      let size = front_length named file whole in
-      let put = lays.put (omega arith) in
-      let end : r ≡ length (front_left named file) = omega (arith, put.end) in
-      let e = one_passes _ 20 (le-ltb (length before) (whole_left named file) l) in
-      record {
-        answered = ap gives end ∙ sym (answer_none _ _ e);
-        bytes = put.text ∙ ap (λ (n : ℕ). front_left named file ++ drop n before) (sym put.end);
-      }
-
-  -- where it ends, and that there is room for the tag behind it
-  pub front_fits : (after : List ℕ) → Whole file → (end : ℕ) → WritesFront named file before (gives end) after
-      → (end ≡ length (front_left named file)) × (end + tag_size (layout_of file) ≤ length before)
-      × (after ≡ front_left named file ++ drop end before) × (length after ≡ length before)
-  unfolding written_for room_cases positive
-  front_fits after whole end w =
-      let size = front_length named file whole in
-      let p = answer_gives _ _ end (sym w.answered) in
-      let room : whole_left named file ≤ length before =
-      ltb-false (length before) _ (clear (room_cases (whole_left named file) (length before)) refl p.0 0) in
-      let text : after ≡ front_left named file ++ drop end before = w.bytes in (
-        sym p.1,
-        omega (arith, p.1),
-        text,
-        ap length text ∙ length-append (front_left named file) (drop end before) ∙ simp length-drop (omega (arith, p.1)),
-      )
-
--- ---- and the tag
-
-module _ (s : Schedule) (named : List Bool) (file before : List ℕ) (after : List ℕ) where
-  abbrev front : List ℕ
-  front = front_left named file
-
-  pub marked_refused : (n : ℕ) → WritesFront named file before (refused n) after → DropsMarked s named file before (refused n) after
-  unfolding written_for
-  marked_refused n w =
-      let k : ℕ = first_of (room_cases (whole_left named file) (length before)) in
-      let p = answer_number k (length front) n (sym w.answered) in
-      record { answered = refusal_is n k (whole_left named file) (sym p.0) (λ q. p.1 (p.0 ∙ q)); bytes = w.bytes }
-
-  module _ (whole : Whole file) (end : ℕ) (w : WritesFront named file before (gives end) after) where
-    room : (first_of (room_cases (whole_left named file) (length before)) ≡ 0) × (length front ≡ end)
-    room = answer_gives _ _ end (sym w.answered)
-
-    pub marked_untagged : tag_size (layout_of file) ≡ 0 → (layout_of file ≡ 2 → ⊥) → DropsMarked s named file before (gives end) after
-    unfolding written_for tag_in
-    marked_untagged z h =
-        let size = front_length named file whole in
-        let all : end ≡ whole_left named file = omega (arith, room.1) in
-        record {
-          answered = ap gives all ∙ sym (answer_none _ _ room.0);
-          bytes = w.bytes ∙ rw (ne_eqb (layout_of file) 2 h) (ap (λ (l : List ℕ). l ++ drop end before) (sym (append-nil front)));
-        }
-
-    pub marked_tagged : layout_of file ≡ 2 → (r : ℕ) (last : List ℕ)
-        → (r ≡ end + 16) × (last ≡ (front ++ tag_under s front) ++ drop r before) → DropsMarked s named file before (gives r) last
-    unfolding written_for tag_in
-    marked_tagged two r last done =
-        let size = front_length named file whole in
-        let sixteen = tag_16 (layout_of file) two in
-        let all : r ≡ whole_left named file = omega (arith, room.1, done.0) in
-        record {
-          answered = ap gives all ∙ sym (answer_none _ _ room.0);
-          bytes = done.1 ∙ rw (eq-eqb (layout_of file) 2 two);
-        }
-
--- the layout by the length of its tag
-pub sized_2 : (layout : ℕ) → (tag_size layout ≡ 0 → ⊥) → layout ≡ 2
-sized_2 layout h = by_layout (eqb layout 2) refl
-  where
-    by_layout : (b : Bool) → eqb layout 2 ≡ b → layout ≡ 2
-    by_layout true e = eqb-true layout 2 e
-    by_layout false e = absurd (h (tag_none layout (λ q. true_false (sym (eq-eqb layout 2 q) ∙ e))))
+  pub marked_done : (r : ℕ) (after : List ℕ) → whole_left named file ≤ length before → r ≡ whole_left named file
+      → after ≡ (front_left named file ++ tag_in s (front_left named file)) ++ drop r before
+      → DropsMarked s named file before (gives r) after
+  unfolding written_for room_cases
+  marked_done r after l e b =
+      let none = one_passes _ 20 (le-ltb (length before) (whole_left named file) l) in
+      record { answered = ap gives e ∙ sym (answer_none _ _ none); bytes = b }
 
 -- ---- the archive of the jobs left
 
@@ -178,31 +139,25 @@ module _ (key tag_key file list : List ℕ) (none : first_of (asked_cases key ta
       ∙ ap (λ (c : List ℕ). header_of (layout_under tag_key) (length key) (length (jobs_left file list)) (archive_number file) c
       (whole_length (layout_under tag_key) (jobs_left file list))) (good_header key tag_key file list none).checked)
 
-  same_tag : (bytes : List ℕ) → tag_in (schedule_of tag_key) (layout_of file) bytes ≡ tag_bytes tag_key bytes
-  unfolding tag_in tag_bytes layout_under
-  same_tag bytes =
-      ap (λ (l : ℕ). tag_in (schedule_of tag_key) l bytes) (good_header key tag_key file list none).laid
-      ∙ by_key (eqb (length tag_key) 0)
-    where
-      by_key : (b : Bool) → cond (eqb (cond b 1 2) 2) (tag_under (schedule_of tag_key) bytes) []
-          ≡ cond b [] (tag_under (schedule_of tag_key) bytes)
-      by_key true = refl
-      by_key false = refl
+  same_tag : (s : Option GoodSchedule) → IsTagSchedule tag_key s → (bytes : List ℕ) → tag_in s bytes ≡ tag_bytes tag_key bytes
+  unfolding tag_bytes
+  same_tag None e bytes = rw (eq-eqb (length tag_key) 0 e)
+  same_tag (Some s) h bytes = rw (ne_eqb (length tag_key) 0 h.0) (ap (λ (t : Schedule). tag_under t bytes) h.1)
 
-  same_file : front_left named file ++ tag_in (schedule_of tag_key) (layout_of file) (front_left named file)
-      ≡ dropped_file key tag_key file list
+  same_file : (s : Option GoodSchedule) → IsTagSchedule tag_key s
+      → front_left named file ++ tag_in s (front_left named file) ≡ dropped_file key tag_key file list
   unfolding dropped_file archive_of
-  same_file =
-      ap₂ (λ (f t : List ℕ). f ++ t) same_front (same_tag (front_left named file) ∙ ap (tag_bytes tag_key) same_front)
+  same_file s h =
+      ap₂ (λ (f t : List ℕ). f ++ t) same_front (same_tag s h (front_left named file) ∙ ap (tag_bytes tag_key) same_front)
 
   pub same_length : whole_left named file ≡ length_left tag_key file list
   same_length = ap₂ whole_length (good_header key tag_key file list none).laid left
 
   -- what is written is the archive of the jobs left
-  pub drop_written : (before : List ℕ) (s : Schedule) (a : Answer) (after : List ℕ) → s ≡ schedule_of tag_key
+  pub drop_written : (before : List ℕ) (s : Option GoodSchedule) (a : Answer) (after : List ℕ) → IsTagSchedule tag_key s
       → DropsMarked s named file before a after → Drops key tag_key file list before a after
   unfolding drop_cases
-  drop_written before s a after es d =
+  drop_written before s a after h d =
       let pass = first_pass (asked_cases key tag_key file list) (room_cases (length_left tag_key file list) (length before))
       (asked_positive key tag_key file list) none in
       record {
@@ -210,18 +165,15 @@ module _ (key tag_key file list : List ℕ) (none : first_of (asked_cases key ta
             d.answered
             ∙ ap (λ (n : ℕ). answer (first_of (room_cases n (length before))) n) same_length
             ∙ ap (λ (n : ℕ). answer n (length_left tag_key file list)) (sym pass);
-        bytes =
-            d.bytes
-            ∙ ap (λ (t : Schedule). written_for a (front_left named file ++ tag_in t (layout_of file) (front_left named file)) before) es
-            ∙ ap (λ (f : List ℕ). written_for a f before) same_file;
+        bytes = d.bytes ∙ ap (λ (f : List ℕ). written_for a f before) (same_file s h);
       }
 
 -- ---- refused
 
-pub drop_refused : (key tag_key file list before : List ℕ) (n : ℕ) → (n ≡ 0 → ⊥) → n ≡ first_of (asked_cases key tag_key file list)
-    → Drops key tag_key file list before (refused n) before
+pub drop_refused : (key tag_key file list before : List ℕ) (e : Refusal) → number e ≡ first_of (asked_cases key tag_key file list)
+    → Drops key tag_key file list before (refused (number e)) before
 unfolding drop_cases written_for
-drop_refused key tag_key file list before n some e = record {
-  answered = ap refused e ∙ sym (answer_first (asked_cases key tag_key file list) _ _ (λ q. some (e ∙ q)));
+drop_refused key tag_key file list before e is = record {
+  answered = ap refused is ∙ sym (answer_first (asked_cases key tag_key file list) _ _ (λ q. number_some e (is ∙ q)));
   bytes = refl;
 }

@@ -6,15 +6,13 @@
 -- Assumes nothing.
 use Rattle.std.specs.Prelude.{◌≡◌, cond, List, [], ◌∷◌, ◌++◌, ℕ, length}
 use Rattle.refusals.specs.Cases.{Case, first_of}
-use Rattle.refusals.specs.Answers.{Answer, refused, gives, answer, written_for}
+use Rattle.refusals.specs.Answers.{Answer, answer, written_for}
 use Rattle.header.specs.Fields.{layout_under, archive_number}
 use Rattle.admission.specs.Check.{check_cases}
 use Rattle.opening.specs.Open.{room_cases}
 use Rattle.codec.specs.Jobs.{Job}
 use Rattle.codec.specs.Archive.{jobs_of, whole_length, archive_of}
 use Rattle.joblist.specs.List.{is_listed, list_cases}
-use Rattle.dropping.specs.declared.Dropped.{Dropped}
-use Rattle.dropping.specs.declared.Dropped.TheVariants.{Bytes, Refused}
 
 -- ---- what is written
 
@@ -51,11 +49,6 @@ drop_cases key tag_key file list room = asked_cases key tag_key file list ++ roo
 -- what dropping answers: the new archive's length
 abbrev pub drop_of : List ℕ → List ℕ → List ℕ → List ℕ → ℕ → Answer
 drop_of key tag_key file list room = answer (first_of (drop_cases key tag_key file list room)) (length_left tag_key file list)
-
--- the answer that a value of `Dropped` is
-abbrev pub dropped_as : Dropped → Answer
-dropped_as (Bytes n) = gives n
-dropped_as (Refused n) = refused n
 
 -- the contract of dropping: a is its answer, and `after` what stands in the buffer that held `before`
 pub record Drops (key tag_key file list before : List ℕ) (a : Answer) (after : List ℕ) : Type 0 where

@@ -1,17 +1,18 @@
 -- Internal: what the inner functions promise each other. No public contract cites it.
 -- Assumes nothing.
-use Rattle.std.specs.Prelude.{◌≡◌, Bool, false, cond, List, [], ◌∷◌, ◌++◌, ℕ, zero, suc, ◌+◌, ◌*◌, ◌≤◌, eqb, length, get_or, drop}
+use Rattle.std.specs.Prelude.{◌≡◌, Bool, false, cond, List, [], ◌∷◌, ◌++◌, ℕ, zero, suc, ◌+◌}
+use Rattle.std.specs.Prelude.{◌*◌, ◌≤◌, eqb, length, get_or, drop, Result, Option, Some, None}
 use Rattle.refusals.specs.Cases.{first_of}
 use Rattle.refusals.specs.Answers.{Answer, answer, written_for, unless_refused}
-use Rattle.circuit.specs.declared.Schedule.{Schedule}
-use Rattle.expansion.specs.KeySchedule.{schedule_of}
+use Rattle.refusals.specs.declared.Refusal.{Refusal}
+use Rattle.refusals.specs.Numbers.{number_in}
+use Rattle.circuit.specs.declared.GoodSchedule.{GoodSchedule}
 use Rattle.cmac.specs.Tag.{tag_under}
 use Rattle.header.specs.Fields.{layout_of, key_length_of, count_of, archive_number, key_check_of}
 use Rattle.opening.specs.Open.{room_cases}
 use Rattle.codec.specs.Jobs.{Job, directory_from, bodies_in}
 use Rattle.codec.specs.Archive.{job_at, whole_length, header_of}
-use Rattle.dropping.specs.Drop.{jobs_left, asked_cases}
-use Rattle.dropping.specs.declared.Asked.{Asked}
+use Rattle.dropping.specs.Preview.{count_in, length_in}
 use Rattle.dropping.specs.declared.Previewed.{Previewed}
 
 -- ---- the jobs that are left, by the marks of those that are dropped
@@ -45,18 +46,19 @@ front_left named file =
     header_left file (length (left_all named file)) (whole_length (layout_of file) (left_all named file))
     ++ (directory_from (20 + 16 * length (left_all named file)) (left_all named file) ++ bodies_in (left_all named file))
 
--- the tag of bytes, in a file of a layout, under the tag key's schedule
-unfoldable pub tag_in : Schedule → ℕ → List ℕ → List ℕ
-tag_in s layout bytes = cond (eqb layout 2) (tag_under s bytes) []
+-- ---- by the tag key's schedule, where there is one
+
+-- the layout
+abbrev pub layout_in : Option GoodSchedule → ℕ
+layout_in None = 1
+layout_in (Some s) = 2
+
+-- the tag of bytes
+abbrev pub tag_in : Option GoodSchedule → List ℕ → List ℕ
+tag_in None bytes = []
+tag_in (Some s) bytes = tag_under s.schedule bytes
 
 -- ---- what the functions promise
-
--- what is asked first: the number of the first case of the archive and of the list, 0 for none; and where there is none, marks by which the
--- jobs are left that the list leaves, and the tag key's schedule
-pub record Asks (key tag_key file list : List ℕ) (r : Asked) : Type 0 where
-  pub number : r.number ≡ first_of (asked_cases key tag_key file list)
-  pub left : r.number ≡ 0 → left_all r.named file ≡ jobs_left file list
-  pub scheduled : r.number ≡ 0 → r.tag_schedule ≡ schedule_of tag_key
 
 -- what is known of a file when writing begins: at most 64 jobs, a whole directory, and no more bytes than an archive has
 pub record Whole (file : List ℕ) : Type 0 where
@@ -68,19 +70,14 @@ pub record Whole (file : List ℕ) : Type 0 where
 abbrev pub whole_left : List Bool → List ℕ → ℕ
 whole_left named file = whole_length (layout_of file) (left_all named file)
 
--- writing all but the tag, where there is room for the new archive
-pub record WritesFront (named : List Bool) (file before : List ℕ) (a : Answer) (after : List ℕ) : Type 0 where
-  pub answered : a ≡ answer (first_of (room_cases (whole_left named file) (length before))) (length (front_left named file))
-  pub bytes : after ≡ written_for a (front_left named file) before
-
 -- dropping the marked entries: the case of the buffer is left
-pub record DropsMarked (s : Schedule) (named : List Bool) (file before : List ℕ) (a : Answer) (after : List ℕ) : Type 0 where
+pub record DropsMarked (s : Option GoodSchedule) (named : List Bool) (file before : List ℕ) (a : Answer) (after : List ℕ) : Type 0 where
   pub answered : a ≡ answer (first_of (room_cases (whole_left named file) (length before))) (whole_left named file)
-  pub bytes : after ≡ written_for a (front_left named file ++ tag_in s (layout_of file) (front_left named file)) before
+  pub bytes : after ≡ written_for a (front_left named file ++ tag_in s (front_left named file)) before
 
 -- the preview of dropping the marked entries, in the same way
-pub record PreviewsMarked (named : List Bool) (file before : List ℕ) (r : Previewed) (after : List ℕ) : Type 0 where
-  pub number : r.number ≡ first_of (room_cases (length (entries_left named file)) (length before))
-  pub counted : r.count ≡ cond (eqb r.number 0) (length (left_all named file)) 0
-  pub sized : r.length ≡ cond (eqb r.number 0) (whole_left named file) 0
-  pub bytes : after ≡ unless_refused r.number (entries_left named file ++ drop (length (entries_left named file)) before) before
+pub record PreviewsMarked (named : List Bool) (file before : List ℕ) (r : Result Previewed Refusal) (after : List ℕ) : Type 0 where
+  pub number : number_in r ≡ first_of (room_cases (length (entries_left named file)) (length before))
+  pub counted : count_in r ≡ cond (eqb (number_in r) 0) (length (left_all named file)) 0
+  pub sized : length_in r ≡ cond (eqb (number_in r) 0) (whole_left named file) 0
+  pub bytes : after ≡ unless_refused (number_in r) (entries_left named file ++ drop (length (entries_left named file)) before) before

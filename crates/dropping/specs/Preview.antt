@@ -3,9 +3,11 @@
 -- that dropping gives, except that 20 measures the contents only." 02's contents are the directory. "It must equal dropping into another
 -- buffer, long enough, and reading the new archive's plate and contents": `preview_is_drop` of dropped_jobs.
 -- Assumes nothing.
-use Rattle.std.specs.Prelude.{◌≡◌, cond, List, ◌++◌, ℕ, ◌+◌, ◌*◌, eqb, length, drop}
+use Rattle.std.specs.Prelude.{◌≡◌, cond, List, ◌++◌, ℕ, ◌+◌, ◌*◌, eqb, length, drop, Result, Ok, Err}
 use Rattle.refusals.specs.Cases.{Case, first_of}
 use Rattle.refusals.specs.Answers.{unless_refused}
+use Rattle.refusals.specs.declared.Refusal.{Refusal}
+use Rattle.refusals.specs.Numbers.{number_in}
 use Rattle.opening.specs.Open.{room_cases}
 use Rattle.codec.specs.Jobs.{directory_from}
 use Rattle.dropping.specs.Drop.{jobs_left, length_left, asked_cases}
@@ -23,12 +25,21 @@ directory_left file list = directory_from (20 + 16 * count_left file list) (jobs
 unfoldable pub preview_cases : List ℕ → List ℕ → List ℕ → List ℕ → ℕ → List Case
 preview_cases key tag_key file list room = asked_cases key tag_key file list ++ room_cases (length (directory_left file list)) room
 
+-- the count and the whole length that an answer tells; beside a refusal both are 0
+abbrev pub count_in : Result Previewed Refusal → ℕ
+count_in (Ok p) = p.count
+count_in (Err e) = 0
+
+abbrev pub length_in : Result Previewed Refusal → ℕ
+length_in (Ok p) = p.length
+length_in (Err e) = 0
+
 -- the contract of the preview: r has the number of the first case, 0 for none, and the count and the whole length of what dropping would
 -- leave, both 0 beside a refusal; `after` stands in the buffer that held `before`: the directory and then what stood there, or on a refusal
 -- `before` as it was
-pub record Previews (key tag_key file list before : List ℕ) (r : Previewed) (after : List ℕ) : Type 0 where
-  pub number : r.number ≡ first_of (preview_cases key tag_key file list (length before))
-  pub counted : r.count ≡ cond (eqb r.number 0) (count_left file list) 0
-  pub sized : r.length ≡ cond (eqb r.number 0) (length_left tag_key file list) 0
+pub record Previews (key tag_key file list before : List ℕ) (r : Result Previewed Refusal) (after : List ℕ) : Type 0 where
+  pub number : number_in r ≡ first_of (preview_cases key tag_key file list (length before))
+  pub counted : count_in r ≡ cond (eqb (number_in r) 0) (count_left file list) 0
+  pub sized : length_in r ≡ cond (eqb (number_in r) 0) (length_left tag_key file list) 0
   pub bytes : after
-      ≡ unless_refused r.number (directory_left file list ++ drop (length (directory_left file list)) before) before
+      ≡ unless_refused (number_in r) (directory_left file list ++ drop (length (directory_left file list)) before) before

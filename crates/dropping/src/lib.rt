@@ -3,317 +3,249 @@
 // of what was written. The preview asks the same, but for the room, and writes the entries alone.
 #![tactic(auto)]
 
-ghost use Rattle.std.specs.Prelude.{◌≡◌, true, false, cond, ◌≤◌, ◌<◌, length, get_or};
-ghost use Rattle.refusals.specs.Shared.{good_rounds};
-ghost use Rattle.octets.specs.Parts.{Lays};
+ghost use Rattle.std.specs.Prelude.{◌≡◌, ◌++◌, ◌*◌, ◌≤◌, ◌<◌, length, drop, IfOk};
+ghost use Rattle.refusals.specs.Cases.{first_of};
+ghost use Rattle.refusals.specs.Numbers.{number_in, answer_of};
 ghost use Rattle.header.specs.Fields.{layout_of, count_of, directory_of};
 ghost use Rattle.directory.specs.Entries.{entry_at, number_of};
-ghost use Rattle.codec.specs.Jobs.{directory_from, bodies_in};
-ghost use Rattle.codec.specs.Archive.{whole_length};
-ghost use Rattle.dropping.specs.Drop.{dropped_as, Drops};
+ghost use Rattle.bodies.specs.Bodies.{body_at};
+ghost use Rattle.admission.specs.Check.{IsTagSchedule};
+ghost use Rattle.codec.specs.Jobs.{bodies_in};
+ghost use Rattle.dropping.specs.Drop.{jobs_left, asked_cases, Drops};
 ghost use Rattle.dropping.specs.Preview.{Previews};
 ghost use Rattle.dropping.specs.Internal.{
-  left_at,
+  left_of,
   left_all,
   whole_left,
   header_left,
+  entries_left,
   front_left,
+  layout_in,
   Whole,
-  Asks,
-  WritesFront,
   DropsMarked,
   PreviewsMarked,
 };
 
-use circuit::Schedule;
+use circuit::GoodSchedule;
+use refusals::Refusal;
 
-// Dropping's answer: how many bytes the new archive has, or a refusal's number.
-#[derive(Clone, Copy)]
-pub enum Dropped {
-    Bytes(usize),
-    Refused(u32),
-}
-
-// The preview's answer: a refusal's number or 0, and how many jobs and how many bytes the new archive would have; beside a refusal both
-// are 0.
-#[derive(Clone, Copy)]
+// What a preview tells: how many jobs and how many bytes the new archive would have.
+#[derive(Clone, Copy, Debug, PartialEq, Eq)]
 pub struct Previewed {
-    pub number: u32,
     pub count: usize,
     pub length: usize,
 }
 
-// What dropping and its preview ask first: a refusal's number or 0, the entries that the list names, and the tag key's schedule.
-#[derive(Drop)]
-struct Asked {
-    number: u32,
+// An archive that has passed its checks, and which of its entries go: what is left is the rest. A tag key's schedule makes the tag.
+#[derive(Clone, Copy)]
+struct Left<'a> {
+    file: &'a [u8],
     named: [bool; 64],
-    tag_schedule: Schedule,
+    tag_schedule: Option<GoodSchedule>,
+    ghost whole: { Whole file.now },
+    ghost laid: { layout_of file.now ≡ layout_in tag_schedule },
 }
 
-// The archive's own checks, then the list's.
-fn ask(key: &[u8], tag_key: &[u8], file: &[u8], list: &[u8]) -> Asked
-    ensures { Asks key.now tag_key.now file.now list.now result }
-{
-    let admitted = admission::admit(key, tag_key, file);
-    let number = admitted.number;
-    let tag_schedule = admitted.tag_schedule;
-    if number != 0 {
-        return Asked {
-            number,
-            named: [false; 64],
+impl<'a> Left<'a> {
+    // The archive's own checks, then the list's.
+    #[tactic(auto, using(crate::proofs::Cases::asked_refused, crate::proofs::Cases::asked_list))]
+    fn check(key: &[u8], tag_key: &[u8], file: &'a [u8], list: &[u8]) -> Result<Left<'a>, Refusal>
+        ensures number { number_in result ≡ first_of (asked_cases key.now tag_key.now file.now list.now) }
+        ensures left { IfOk result (λ left. (left.file.now ≡ file.now)
+            × (left_all left.named file.now ≡ jobs_left file.now list.now) × IsTagSchedule tag_key.now left.tag_schedule) }
+    {
+        let admitted = admission::admit(key, tag_key, file)?;
+        let named = joblist::mark(file, list)?;
+        let tag_schedule = admitted.tag_schedule;
+        Ok(Left {
+            file,
+            named,
             tag_schedule,
+        })
+    }
+
+    // Of each entry, whether it goes.
+    #[tactic(auto, using(crate::proofs::Entries::left_marks))]
+    fn marks(&self) -> &[bool]
+        ensures { (length result.now ≡ count_of self.now.file.now) × (length result.now ≤ 64)
+            × (left_of result.now self.now.file.now (length result.now) ≡ left_all self.now.named self.now.file.now) }
+    {
+        &self.named[..header::count(self.file)]
+    }
+
+    // How many jobs are left.
+    #[tactic(auto, using(crate::proofs::Entries::left_counted))]
+    fn count(&self) -> usize
+        ensures { (result ≡ length (left_all self.now.named self.now.file.now)) × (result ≤ 64) }
+    {
+        self.marks().iter().filter(|goes| !**goes).count()
+    }
+
+    // How many bytes the body of entry i has.
+    #[tactic(auto, using(crate::proofs::Entries::body_within))]
+    fn size_at(&self, i: usize) -> usize
+        ensures { (result ≡ length (body_at self.now.file.now i)) × (result ≤ 65536) }
+    {
+        bodies::body_at(self.file, i).len()
+    }
+
+    // How many bytes the bodies that are left have.
+    #[tactic(auto, using(crate::proofs::Entries::size_none, crate::proofs::Entries::size_same, crate::proofs::Entries::size_next))]
+    fn bodies_size(&self) -> usize
+        ensures { (result ≡ length (bodies_in (left_all self.now.named self.now.file.now))) × (result ≤ 4194304) }
+    {
+        let mut size = 0;
+        for (i, goes) in self.marks().iter().enumerate() {
+            if !*goes {
+                size += self.size_at(i);
+            }
+        }
+        size
+    }
+
+    // How many bytes the new archive has, its tag included.
+    #[tactic(auto, unfolding(codec::specs::Archive::whole_length))]
+    fn whole_length(&self) -> usize
+        ensures { result ≡ whole_left self.now.named self.now.file.now }
+    {
+        20 + 16 * self.count() + self.bodies_size() + header::tag_size(self.file)
+    }
+
+    // The job number of entry i, in eight bytes.
+    #[tactic(auto, using(crate::proofs::Entries::entry_sixteen))]
+    fn job_number(&self, i: usize) -> [u8; 8]
+        requires { i < count_of self.now.file.now }
+        ensures { result ≡ number_of (entry_at (directory_of self.now.file.now) i) }
+    {
+        let entry = directory::entry(header::directory(self.file), i);
+        let mut number = [0u8; 8];
+        number.copy_from_slice(&entry[..8]);
+        number
+    }
+
+    // Writes the directory of the jobs that are left over sixteen bytes a job; the first body starts behind it.
+    fn write_directory(&self, run: &mut [u8])
+        requires { length run.old ≡ 16 * length (left_all self.now.named self.now.file.now) }
+        ensures { run.new ≡ entries_left self.now.named self.now.file.now }
+    {
+        let mut start = 20 + run.len();
+        let mut at = 0;
+        for (i, goes) in self.marks().iter().enumerate() {
+            if !*goes {
+                let size = self.size_at(i);
+                let entry = codec::entry(self.job_number(i), start, size);
+                run[at..at + 16].copy_from_slice(&entry);
+                at += 16;
+                start += size;
+            }
+        }
+    }
+
+    // Writes the sealed bodies that are left over as many bytes as they have.
+    fn write_bodies(&self, run: &mut [u8])
+        requires { length run.old ≡ length (bodies_in (left_all self.now.named self.now.file.now)) }
+        ensures { run.new ≡ bodies_in (left_all self.now.named self.now.file.now) }
+    {
+        let mut at = 0;
+        for (i, goes) in self.marks().iter().enumerate() {
+            if !*goes {
+                let end = at + self.size_at(i);
+                run[at..end].copy_from_slice(bodies::body_at(self.file, i));
+                at = end;
+            }
+        }
+    }
+
+    // The header of the new archive: count and whole length are set anew, the other fields stay.
+    #[tactic(auto, using(header::proofs::Accepted::number_length))]
+    fn header(&self) -> [u8; 20]
+        ensures { result ≡ header_left self.now.file.now (length (left_all self.now.named self.now.file.now))
+            (whole_left self.now.named self.now.file.now) }
+    {
+        let file = self.file;
+        let mut number = [0u8; 4];
+        number.copy_from_slice(header::archive_number(file));
+        let mut check = [0u8; 8];
+        check.copy_from_slice(&file[8..16]);
+        let count = self.count();
+        let whole = self.whole_length();
+        codec::header(file[0], file[1], count, number, check, whole)
+    }
+
+    // Writes all but the tag at the front of a buffer that has room for it, and answers where it ends.
+    #[tactic(auto, unfolding(codec::specs::Archive::whole_length))]
+    fn write_front(&self, out: &mut [u8]) -> usize
+        requires { whole_left self.now.named self.now.file.now ≤ length out.old }
+        ensures { (result ≡ length (front_left self.now.named self.now.file.now))
+            × (out.new ≡ front_left self.now.named self.now.file.now ++ drop result out.old) }
+    {
+        let from = 20 + 16 * self.count();
+        let end = from + self.bodies_size();
+        out[..20].copy_from_slice(&self.header());
+        self.write_directory(&mut out[20..from]);
+        self.write_bodies(&mut out[from..end]);
+        end
+    }
+
+    // Writes the new archive at the front of a buffer, if it has room for it, and answers how many bytes it has.
+    fn write(&self, out: &mut [u8]) -> Result<usize, Refusal>
+        ensures { DropsMarked self.now.tag_schedule self.now.named self.now.file.now out.old (answer_of result) out.new }
+    {
+        if out.len() < self.whole_length() {
+            return Err(Refusal::BufferTooShort);
+        }
+        let end = self.write_front(out);
+        let Some(tag_schedule) = self.tag_schedule else {
+            return Ok(end);
         };
+        let tag = cmac::tag_good(tag_schedule, &out[..end]);
+        out[end..end + 16].copy_from_slice(&tag);
+        Ok(end + 16)
     }
-    let marks = joblist::mark(file, list);
-    let named = marks.named;
-    Asked {
-        number: marks.number,
-        named,
-        tag_schedule,
+
+    // Writes the directory of the new archive at the front of a buffer, if it has room for it, and tells count and whole length.
+    #[tactic(auto, using(crate::proofs::Previewing::marked_short))]
+    fn preview(&self, out: &mut [u8]) -> Result<Previewed, Refusal>
+        ensures { PreviewsMarked self.now.named self.now.file.now out.old result out.new }
+    {
+        let count = self.count();
+        if out.len() < 16 * count {
+            return Err(Refusal::BufferTooShort);
+        }
+        self.write_directory(&mut out[..16 * count]);
+        let length = self.whole_length();
+        Ok(Previewed { count, length })
     }
 }
 
-// How many bytes the body of entry i has; 0 where it is marked, so dropped.
-fn size_at(file: &[u8], named: [bool; 64], i: usize) -> usize
-    requires { (i < 64) × Whole file.now }
-    ensures { (result ≡ length (bodies_in (left_at named file.now i))) × (result ≤ 65536) }
-{
-    if named[i] {
-        return 0;
-    }
-    bodies::body_at(file, i).len()
-}
-
-// How many bytes the bodies that are left have.
-fn bodies_size(file: &[u8], named: [bool; 64]) -> usize
-    requires { Whole file.now }
-    ensures { (result ≡ length (bodies_in (left_all named file.now))) × (result ≤ 4194304) }
-{
-    let count = header::count(file);
-    let mut size: usize = 0;
-    let mut i: usize = 0;
-    while i < count {
-        size += size_at(file, named, i);
-        i += 1;
-    }
-    size
-}
-
-// How many jobs entry i leaves: 1, or 0 where it is marked.
-fn one_left(named: [bool; 64], i: usize) -> usize
-    requires { i < 64 }
-    ensures { result ≡ cond (get_or named i false) 0 1 }
-{
-    if named[i] {
-        return 0;
-    }
-    1
-}
-
-// How many jobs are left.
-fn count_left(file: &[u8], named: [bool; 64]) -> usize
-    requires { Whole file.now }
-    ensures { (result ≡ length (left_all named file.now)) × (result ≤ 64) }
-{
-    let count = header::count(file);
-    let mut left: usize = 0;
-    let mut i: usize = 0;
-    while i < count {
-        left += one_left(named, i);
-        i += 1;
-    }
-    left
-}
-
-// How many bytes the new archive has, its tag included.
-fn whole_left(file: &[u8], named: [bool; 64]) -> usize
-    requires { Whole file.now }
-    ensures { result ≡ whole_left named file.now }
-{
-    20 + 16 * count_left(file, named) + bodies_size(file, named) + header::tag_size(file)
-}
-
-// The job number of entry i, in eight bytes.
-fn job_number(file: &[u8], i: usize) -> [u8; 8]
-    requires { (i < count_of file.now) × Whole file.now }
-    ensures { result ≡ number_of (entry_at (directory_of file.now) i) }
-{
-    let mut number = [0u8; 8];
-    octets::copy(directory::entry(header::directory(file), i), &mut number);
-    number
-}
-
-// Puts the entry of a job that is left, its body starting at `start`, into the buffer at `at`; answers the place behind it, as each
-// function that puts something does. Of a job that is dropped nothing is put.
-fn put_entry(
-    out: &mut [u8],
-    at: usize,
+// Drops the jobs of a list from an archive: writes the archive without them at the front of a buffer, and answers how many bytes it has.
+pub fn drop(
+    key: &[u8],
+    tag_key: &[u8],
     file: &[u8],
-    named: [bool; 64],
-    i: usize,
-    start: usize,
-) -> usize
-    requires { (i < count_of file.now) × Whole file.now }
-    ensures { Lays out.old at (directory_from start (left_at named file.now i)) result out.new }
-{
-    if named[i] {
-        return at;
-    }
-    let size = bodies::body_at(file, i).len();
-    let entry = codec::entry(job_number(file, i), start, size);
-    octets::put(out, at, &entry)
-}
-
-// Puts the directory of the jobs that are left, the first body starting at `from`.
-fn put_directory(out: &mut [u8], at: usize, file: &[u8], named: [bool; 64], from: usize) -> usize
-    requires { (from ≤ 65536) × Whole file.now }
-    ensures { Lays out.old at (directory_from from (left_all named file.now)) result out.new }
-{
-    let count = header::count(file);
-    let mut start = from;
-    let mut next = at;
-    let mut i: usize = 0;
-    while i < count {
-        next = put_entry(out, next, file, named, i, start);
-        start += size_at(file, named, i);
-        i += 1;
-    }
-    next
-}
-
-// Puts the sealed body of a job that is left.
-fn put_body(out: &mut [u8], at: usize, file: &[u8], named: [bool; 64], i: usize) -> usize
-    requires { i < 64 }
-    ensures { Lays out.old at (bodies_in (left_at named file.now i)) result out.new }
-{
-    if named[i] {
-        return at;
-    }
-    octets::put(out, at, bodies::body_at(file, i))
-}
-
-// Puts the sealed bodies that are left.
-fn put_bodies(out: &mut [u8], at: usize, file: &[u8], named: [bool; 64]) -> usize
-    requires { Whole file.now }
-    ensures { Lays out.old at (bodies_in (left_all named file.now)) result out.new }
-{
-    let count = header::count(file);
-    let mut next = at;
-    let mut i: usize = 0;
-    while i < count {
-        next = put_body(out, next, file, named, i);
-        i += 1;
-    }
-    next
-}
-
-// The header of an archive of `count` of the file's jobs, of `whole` bytes: the other fields stay.
-fn header_left(file: &[u8], count: usize, whole: usize) -> [u8; 20]
-    requires { Whole file.now }
-    ensures { result ≡ header_left file.now count whole }
-{
-    let mut number = [0u8; 4];
-    octets::copy(header::archive_number(file), &mut number);
-    let mut check = [0u8; 8];
-    octets::copy(octets::part(file, 8, 8), &mut check);
-    codec::header(file[0], file[1], count, number, check, whole)
-}
-
-// Puts header, directory and bodies of the jobs that are left, `count` of them in an archive of `whole` bytes.
-fn put_front(out: &mut [u8], file: &[u8], named: [bool; 64], count: usize, whole: usize) -> usize
-    requires { (count ≡ length (left_all named file.now)) × (count ≤ 64)
-        × (whole ≡ whole_length (layout_of file.now) (left_all named file.now)) × Whole file.now }
-    ensures { Lays out.old 0 (front_left named file.now) result out.new }
-{
-    let first = octets::put(out, 0, &header_left(file, count, whole));
-    let second = put_directory(out, first, file, named, 20 + 16 * count);
-    put_bodies(out, second, file, named)
-}
-
-// Writes all but the tag at the front of a buffer that has room for the new archive, and answers where it ends; 20 where it has not.
-fn write_front(file: &[u8], named: [bool; 64], out: &mut [u8]) -> Dropped
-    requires { Whole file.now }
-    ensures { WritesFront named file.now out.old (dropped_as result) out.new }
-{
-    let whole = whole_left(file, named);
-    if out.len() < whole {
-        return Dropped::Refused(20);
-    }
-    let count = count_left(file, named);
-    Dropped::Bytes(put_front(out, file, named, count, whole))
-}
-
-// Writes the archive without the marked entries; in layout 2 the tag key's schedule makes the tag of all that was written.
-fn drop_marked(tag_schedule: Schedule, file: &[u8], named: [bool; 64], out: &mut [u8]) -> Dropped
-    requires { (layout_of file.now ≡ 2 → good_rounds tag_schedule.rounds ≡ true) × Whole file.now }
-    ensures { DropsMarked tag_schedule named file.now out.old (dropped_as result) out.new }
-{
-    let written = write_front(file, named, out);
-    let Dropped::Bytes(end) = written else {
-        return written;
-    };
-    if header::tag_size(file) == 0 {
-        return Dropped::Bytes(end);
-    }
-    let tag = cmac::tag_under(tag_schedule, &out[0..end]).tag;
-    Dropped::Bytes(octets::put(out, end, &tag))
-}
-
-// Drops the jobs of a list from an archive: the archive without them at the front of a buffer.
-pub fn drop(key: &[u8], tag_key: &[u8], file: &[u8], list: &[u8], out: &mut [u8]) -> Dropped
+    list: &[u8],
+    out: &mut [u8],
+) -> Result<usize, Refusal>
     ensures { Drops key.now tag_key.now file.now list.now out.old
-        (dropped_as result) out.new }
+        (answer_of result) out.new }
 {
-    let asked = ask(key, tag_key, file, list);
-    let n = asked.number;
-    if n != 0 {
-        return Dropped::Refused(n);
-    }
-    let named = asked.named;
-    drop_marked(asked.tag_schedule, file, named, out)
-}
-
-// A refusal of the preview.
-fn refused_preview(number: u32) -> Previewed
-    ensures { (result.number ≡ number) × (result.count ≡ 0) × (result.length ≡ 0) }
-{
-    Previewed {
-        number,
-        count: 0,
-        length: 0,
-    }
-}
-
-// Writes the directory without the marked entries, if the buffer has room for it, and tells the count and the whole length.
-fn preview_marked(file: &[u8], named: [bool; 64], out: &mut [u8]) -> Previewed
-    requires { Whole file.now }
-    ensures { PreviewsMarked named file.now out.old result out.new }
-{
-    let count = count_left(file, named);
-    if out.len() < 16 * count {
-        return refused_preview(20);
-    }
-    let length = whole_left(file, named);
-    put_directory(out, 0, file, named, 20 + 16 * count);
-    Previewed {
-        number: 0,
-        count,
-        length,
-    }
+    let left = Left::check(key, tag_key, file, list)?;
+    left.write(out)
 }
 
 // What dropping the jobs of a list would leave: count and whole length of the new archive, and its directory (01's contents) at the front
 // of a buffer. No archive is written.
-pub fn preview(key: &[u8], tag_key: &[u8], file: &[u8], list: &[u8], out: &mut [u8]) -> Previewed
+#[tactic(auto, using(crate::proofs::Previewing::preview_refused))]
+pub fn preview(
+    key: &[u8],
+    tag_key: &[u8],
+    file: &[u8],
+    list: &[u8],
+    out: &mut [u8],
+) -> Result<Previewed, Refusal>
     ensures { Previews key.now tag_key.now file.now list.now out.old result
         out.new }
 {
-    let asked = ask(key, tag_key, file, list);
-    let n = asked.number;
-    if n != 0 {
-        return refused_preview(n);
-    }
-    let named = asked.named;
-    preview_marked(file, named, out)
+    let left = Left::check(key, tag_key, file, list)?;
+    left.preview(out)
 }

@@ -1,19 +1,24 @@
 -- What a key's length says of its schedule: the case of a good key and of another.
 -- Assumes nothing.
-use mathlib.Core.Path.{◌≡◌, refl, sym, ap, ap₂, subst}
-use mathlib.Core.Bool.{Bool, true, false, ◌||◌}
+use mathlib.Core.Path.{◌≡◌, refl, sym, ap, ap₂, subst, ◌∙◌}
+use Rattle.std.specs.Prelude.{Err}
+use Rattle.refusals.specs.declared.Refusal.{Refusal}
+use Rattle.refusals.specs.Numbers.{number}
+use Rattle.refusals.proofs.Numbers.{number_some}
+use mathlib.Core.Bool.{Bool, true, false, not, cond, ◌||◌}
 use mathlib.Core.List.{List, []}
 use Prim.Native.Nat.{ℕ, ◌+◌, ◌≤◌, ◌<◌}
 use native.Mathlib.Omega.{arith}
 use lib.Dec.{eqb}
-use lib.ListN.{length, get_or, replicate}
-use borrow.Author.Tests.{eqb-true, ne_eqb}
+use lib.ListN.{length, get_or}
+use borrow.Author.Tests.{eqb-true}
 use Rattle.refusals.specs.Cases.{first_of}
 use Rattle.refusals.specs.Shared.{good_key, key_cases, good_rounds}
-use Rattle.refusals.proofs.Shared.{key_0, key_1}
+use Rattle.refusals.proofs.Shared.{key_0, key_1, key_good, key_bad}
 use Rattle.blocks.specs.Blocks.{row}
 use Rattle.circuit.specs.declared.Schedule.{Schedule}
-use Rattle.expansion.specs.KeySchedule.{rounds_for, keys_for, encryption_keys, key_bytes, schedule_for, schedule_of}
+use Rattle.circuit.specs.Good.{no_schedule}
+use Rattle.expansion.specs.KeySchedule.{rounds_for, keys_for, encryption_keys, key_bytes, schedule_for, schedule_of, Expands}
 
 -- what holds of the length of a good key, and of another
 pub record GoodKey (n : ℕ) : Type 0 where
@@ -54,7 +59,7 @@ length_good n e = by_tests (eqb n 16) refl (eqb n 24) refl e
     by_tests false p true q e = subst (λ (m : ℕ). GoodKey m) (sym (eqb-true n 24 q)) good_24
     by_tests false p false q e = subst (λ (m : ℕ). GoodKey m) (sym (eqb-true n 32 e)) good_32
 
-length_bad : (n : ℕ) → good_key n ≡ false → BadKey n
+pub length_bad : (n : ℕ) → good_key n ≡ false → BadKey n
 unfolding good_key rounds_for keys_for
 length_bad n e = by_tests (eqb n 16) refl (eqb n 24) refl (eqb n 32) refl e
   where
@@ -64,28 +69,21 @@ length_bad n e = by_tests (eqb n 16) refl (eqb n 24) refl (eqb n 32) refl e
     by_tests false p false q true r h = let z : ◌≡◌ {A = ℕ} 0 1 = cc in absurd (omega arith)
     by_tests false p false q false r h = record { number = key_1 n e; rounds = rw (p, q, r); keys = rw (p, q, r) }
 
--- the rounds tell the case
-pub rounds_some : (n : ℕ) → (rounds_for n ≡ 0 → ⊥) → GoodKey n
-rounds_some n h = by_case (good_key n) refl
+-- the number tells the case
+pub number_good : (n : ℕ) → first_of (key_cases n) ≡ 0 → GoodKey n
+number_good n e = length_good n (key_good n e)
+
+pub number_bad : (n : ℕ) → (first_of (key_cases n) ≡ 0 → ⊥) → BadKey n
+number_bad n h = length_bad n (key_bad n h)
+
+-- the number, as the tests of the code find it
+pub number_told : (n : ℕ) → first_of (key_cases n) ≡ cond (eqb n 16 || (eqb n 24 || eqb n 32)) 0 1
+unfolding key_cases good_key first_of
+number_told n = by_case (eqb n 16 || (eqb n 24 || eqb n 32))
   where
-    by_case : (a : Bool) → good_key n ≡ a → GoodKey n
-    by_case true p = length_good n p
-    by_case false p = absurd (h (length_bad n p).rounds)
-
-pub rounds_none : (n : ℕ) → rounds_for n ≡ 0 → BadKey n
-rounds_none n e = by_case (good_key n) refl
-  where
-    by_case : (a : Bool) → good_key n ≡ a → BadKey n
-    by_case true p = absurd (omega (arith, (length_good n p).some, e))
-    by_case false p = length_bad n p
-
--- the rounds, as the tests of the code find them
-pub rounds_at : (m n : ℕ) → n ≡ m → rounds_for m ≡ rounds_for n
-rounds_at m n e = ap rounds_for (sym e)
-
-pub rounds_other : (n : ℕ) → (n ≡ 16 → ⊥) → (n ≡ 24 → ⊥) → (n ≡ 32 → ⊥) → 0 ≡ rounds_for n
-unfolding rounds_for
-rounds_other n p q r = rw (ne_eqb n 16 p, ne_eqb n 24 q, ne_eqb n 32 r)
+    by_case : (a : Bool) → ◌≡◌ {A = ℕ} (cond (not a) 1 0) (cond a 0 1)
+    by_case true = refl
+    by_case false = refl
 
 -- ---- the schedule
 
@@ -105,7 +103,12 @@ unfolding schedule_for
 schedule_good n w g = ap (λ (k : ℕ). record { rounds = rounds_for n; keys = key_bytes (λ (i : ℕ). get_or (encryption_keys w) i []) k })
     g.keys
 
-pub schedule_bad : (n : ℕ) (w : List (List ℕ)) → BadKey n → schedule_for n w ≡ record { rounds = 0; keys = replicate 272 0 }
+pub schedule_bad : (n : ℕ) (w : List (List ℕ)) → BadKey n → schedule_for n w ≡ no_schedule
 unfolding schedule_for key_bytes row
 schedule_bad n w g =
     ap₂ (λ (r k : ℕ). record { rounds = r; keys = key_bytes (λ (i : ℕ). get_or (encryption_keys w) i []) k }) g.rounds g.keys
+
+-- a refusal for the length expands to it
+pub expand_refused : (n : ℕ) (w : List (List ℕ)) (e : Refusal) → number e ≡ first_of (key_cases n) → Expands n w (Err e)
+expand_refused n w e told =
+    record { number = told; schedule = sym (schedule_bad n w (number_bad n (λ z. number_some e (told ∙ z)))) }

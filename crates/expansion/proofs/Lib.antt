@@ -3,4 +3,3 @@ pub mod Keys
 pub mod KeyBytes
 pub mod Reversal
 pub mod Undo
-pub mod Taken

@@ -2,17 +2,19 @@
 -- the round keys ek1 to ek17, of which the first 13, 15 or 17 are used. A schedule has room for seventeen; those not used are zero.
 -- A key of another length has a schedule of no rounds and zero keys.
 -- Assumes nothing.
-use Rattle.std.specs.Prelude.{◌≡◌, cond, List, [], ◌∷◌, ◌++◌, ℕ, ◌+◌, ◌-◌, ◌*◌, eqb, length, get_or, drop, replicate}
+use Rattle.std.specs.Prelude.{◌≡◌, cond, List, [], ◌∷◌, ◌++◌, ℕ, ◌+◌, ◌-◌, ◌*◌, eqb, length, get_or, drop, replicate, Result}
+use Rattle.refusals.specs.declared.Refusal.{Refusal}
 use Rattle.refusals.specs.Cases.{first_of}
+use Rattle.refusals.specs.Numbers.{number_in}
 use Rattle.refusals.specs.Shared.{good_key, key_cases}
 use Rattle.blocks.specs.Xor.{xor_block}
 use Rattle.blocks.specs.Blocks.{block_of, row}
 use Rattle.boxes.specs.Boxes.{box}
 use Rattle.circuit.specs.Circuit.{odd_round, even_round}
 use Rattle.circuit.specs.declared.Schedule.{Schedule}
+use Rattle.circuit.specs.declared.GoodSchedule.{GoodSchedule}
+use Rattle.circuit.specs.Good.{schedule_in}
 use Rattle.rotation.specs.Rotation.{◌>>>◌, ◌<<<◌}
-use Rattle.expansion.specs.Outcomes.{number}
-use Rattle.expansion.specs.declared.Prepared.{Prepared}
 
 -- the constants C1, C2 and C3
 unfoldable pub c1 : List ℕ
@@ -82,12 +84,12 @@ schedule_for n w = record { rounds = rounds_for n; keys = key_bytes (λ (i : ℕ
 unfoldable pub schedule_of : List ℕ → Schedule
 schedule_of key = schedule_for (length key) (words_of key)
 
--- the contract of expanding the words w of a key of n bytes: 01's number of the outcome, and the schedule beside it
-pub record Expands (n : ℕ) (w : List (List ℕ)) (r : Prepared) : Type 0 where
-  pub number : number r.outcome ≡ first_of (key_cases n)
-  pub schedule : r.schedule ≡ schedule_for n w
+-- the contract of expanding the words w of a key of n bytes: 01's number of the result, and the schedule in it
+pub record Expands (n : ℕ) (w : List (List ℕ)) (r : Result GoodSchedule Refusal) : Type 0 where
+  pub number : number_in r ≡ first_of (key_cases n)
+  pub schedule : schedule_in r ≡ schedule_for n w
 
 -- the contract of key preparation
-pub record Prepares (key : List ℕ) (r : Prepared) : Type 0 where
-  pub number : number r.outcome ≡ first_of (key_cases (length key))
-  pub schedule : r.schedule ≡ schedule_of key
+pub record Prepares (key : List ℕ) (r : Result GoodSchedule Refusal) : Type 0 where
+  pub number : number_in r ≡ first_of (key_cases (length key))
+  pub schedule : schedule_in r ≡ schedule_of key

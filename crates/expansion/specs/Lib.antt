@@ -1,4 +1,2 @@
-pub mod Outcomes
 pub mod KeySchedule
 pub mod Decryption
-pub mod Internal

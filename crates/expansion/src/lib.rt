@@ -1,39 +1,15 @@
 // From the words of a key to its round keys, and from a schedule to its decryption schedule: what needs no box.
 #![tactic(auto)]
 
-ghost use Rattle.std.specs.Prelude.{◌≡◌, [], ◌++◌, ◌*◌, ◌≤◌, get_or, take, drop, replicate};
-ghost use Rattle.expansion.specs.Outcomes.{number};
-ghost use Rattle.expansion.specs.Internal.{rotated_to};
+ghost use Rattle.std.specs.Prelude.{◌≡◌, List, [], ℕ, ◌<◌, ◌≤◌, get_or, IfOk};
+ghost use Rattle.refusals.specs.Cases.{first_of};
+ghost use Rattle.refusals.specs.Numbers.{number_in};
+ghost use Rattle.refusals.specs.Shared.{key_cases, good_rounds};
 ghost use Rattle.expansion.specs.KeySchedule.{constants_for, four, encryption_keys, key_bytes, rounds_for, Expands};
-ghost use Rattle.expansion.specs.Decryption.{decryption_key, decryption_keys, Reverses};
+ghost use Rattle.expansion.specs.Decryption.{decryption_key, decryption_of, Reverses};
 
-use circuit::Schedule;
-
-// What a preparation came to. 01's numbers are given by `number` of specs/.
-#[derive(Clone, Copy)]
-pub enum Outcome {
-    Ready,
-    KeyLength,
-    RoundCount,
-}
-
-// An outcome, and beside it the schedule: of no rounds and zero keys where the outcome is a refusal.
-#[derive(Clone, Copy)]
-pub struct Prepared {
-    pub outcome: Outcome,
-    pub schedule: Schedule,
-}
-
-// 01's number of an outcome.
-pub fn number_of(outcome: Outcome) -> u32
-    ensures { result ≡ number outcome }
-{
-    match outcome {
-        Outcome::Ready => 0,
-        Outcome::KeyLength => 1,
-        Outcome::RoundCount => 3,
-    }
-}
+use circuit::{GoodSchedule, Schedule};
+use refusals::Refusal;
 
 // The constants C1, C2 and C3 of RFC 5794.
 const C1: [u8; 16] = [
@@ -52,44 +28,23 @@ const C3: [u8; 16] = [
 pub fn constants(n: usize) -> [[u8; 16]; 3]
     ensures { result ≡ constants_for n }
 {
-    let c1 = C1;
-    let c2 = C2;
-    let c3 = C3;
-    if n == 16 {
-        return [c1, c2, c3];
-    }
-    if n == 24 {
-        return [c2, c3, c1];
-    }
-    [c3, c1, c2]
-}
-
-// The two ways to rotate.
-#[derive(Clone, Copy)]
-enum Side {
-    Right,
-    Left,
-}
-
-// A word rotated by k places.
-fn rotate(side: Side, k: u32, word: [u8; 16]) -> [u8; 16]
-    ensures { result ≡ rotated_to side k word }
-{
-    match side {
-        Side::Right => rotation::right(word, k),
-        Side::Left => rotation::left(word, k),
+    match n {
+        16 => [C1, C2, C3],
+        24 => [C2, C3, C1],
+        _ => [C3, C1, C2],
     }
 }
 
-// Four round keys, with the words rotated by k places.
-fn four_keys(w: [[u8; 16]; 4], side: Side, k: u32) -> [[u8; 16]; 4]
-    ensures { result ≡ four (rotated_to side k) w }
+// Four round keys, each of a word and one that is rotated by k places.
+fn four_keys<F: Fn([u8; 16], u32) -> [u8; 16]>(w: [[u8; 16]; 4], rotate: F, k: u32) -> [[u8; 16]; 4]
+    requires { F.IsAlwaysCallable rotate }
+    ensures { (r : List ℕ → List ℕ) → ((x y : List ℕ) → F.post rotate x k y → y ≡ r x) → result ≡ four r w }
 {
     [
-        blocks::xor(w[0], rotate(side, k, w[1])),
-        blocks::xor(w[1], rotate(side, k, w[2])),
-        blocks::xor(w[2], rotate(side, k, w[3])),
-        blocks::xor(rotate(side, k, w[0]), w[3]),
+        blocks::xor(w[0], rotate(w[1], k)),
+        blocks::xor(w[1], rotate(w[2], k)),
+        blocks::xor(w[2], rotate(w[3], k)),
+        blocks::xor(rotate(w[0], k), w[3]),
     ]
 }
 
@@ -97,10 +52,10 @@ fn four_keys(w: [[u8; 16]; 4], side: Side, k: u32) -> [[u8; 16]; 4]
 fn encryption_keys(w: [[u8; 16]; 4]) -> [[u8; 16]; 17]
     ensures { result ≡ encryption_keys w }
 {
-    let a = four_keys(w, Side::Right, 19);
-    let b = four_keys(w, Side::Right, 31);
-    let c = four_keys(w, Side::Left, 61);
-    let d = four_keys(w, Side::Left, 31);
+    let a = four_keys(w, rotation::right, 19);
+    let b = four_keys(w, rotation::right, 31);
+    let c = four_keys(w, rotation::left, 61);
+    let d = four_keys(w, rotation::left, 31);
     let last = blocks::xor(w[0], rotation::left(w[1], 19));
     [
         a[0], a[1], a[2], a[3], b[0], b[1], b[2], b[3], c[0], c[1], c[2], c[3], d[0], d[1], d[2],
@@ -108,120 +63,88 @@ fn encryption_keys(w: [[u8; 16]; 4]) -> [[u8; 16]; 17]
     ]
 }
 
-// The key bytes of a schedule with key i, counted from 0, put in its place.
-fn put(bytes: [u8; 272], i: usize, key: [u8; 16]) -> [u8; 272]
-    requires { i ≤ 16 }
-    ensures { result ≡ take (16 * i) bytes ++ (key ++ drop 16 (drop (16 * i) bytes)) }
-{
-    let mut out = bytes;
-    let from = 16 * i;
-    let end = from + 16;
-    blocks::store(key, &mut out[from..end]);
-    out
-}
-
-// The key bytes of a schedule that uses the first n keys.
-fn key_bytes(keys: [[u8; 16]; 17], n: usize) -> [u8; 272]
-    requires { n ≤ 17 }
-    ensures { result ≡ key_bytes (λ i. get_or keys i []) n }
+// The key bytes of a schedule that uses the first n keys of a rule.
+fn key_bytes<F: Fn(usize) -> [u8; 16]>(n: usize, key: F) -> [u8; 272]
+    requires few { n ≤ 17 }
+    requires callable { (i : ℕ) → i < n → F.pre key i }
+    ensures { (rule : ℕ → List ℕ) → ((i : ℕ) (k : List ℕ) → i < n → F.post key i k → k ≡ rule i) → result ≡ key_bytes rule n }
 {
     let mut out = [0u8; 272];
-    let mut i: usize = 0;
-    while i < n {
-        let next = put(out, i, keys[i]);
-        out = next;
-        i += 1;
+    for i in 0..n {
+        let at = 16 * i;
+        blocks::store(key(i), &mut out[at..at + 16]);
     }
     out
 }
 
-// The rounds for a key of n bytes, 0 where a key has no such length.
-fn rounds_for(n: usize) -> usize
-    ensures { result ≡ rounds_for n }
+// The rounds for a key of n bytes; refusal 1 where a key has no such length.
+#[tactic(auto, using(crate::proofs::KeyLengths::number_told), unfolding(crate::specs::KeySchedule::rounds_for))]
+fn rounds_for(n: usize) -> Result<usize, Refusal>
+    ensures number { number_in result ≡ first_of (key_cases n) }
+    ensures rounds { IfOk result (λ rounds. rounds ≡ rounds_for n) }
 {
-    if n == 16 {
-        return 12;
-    }
-    if n == 24 {
-        return 14;
-    }
-    if n == 32 {
-        return 16;
-    }
-    0
-}
-
-// A schedule that is ready.
-fn ready(rounds: usize, keys: [u8; 272]) -> Prepared
-    ensures { (number result.outcome ≡ 0) × (result.schedule.rounds ≡ rounds) × (result.schedule.keys ≡ keys) }
-{
-    let schedule = Schedule { rounds, keys };
-    Prepared {
-        outcome: Outcome::Ready,
-        schedule,
+    match n {
+        16 => Ok(12),
+        24 => Ok(14),
+        32 => Ok(16),
+        _ => Err(Refusal::KeyLength),
     }
 }
 
-// A refusal, beside a schedule of no rounds and zero keys.
-fn refused(outcome: Outcome) -> Prepared
-    ensures { (result.outcome ≡ outcome) × (result.schedule.rounds ≡ 0) × (result.schedule.keys ≡ replicate 272 0) }
-{
-    let schedule = Schedule {
-        rounds: 0,
-        keys: [0u8; 272],
-    };
-    Prepared { outcome, schedule }
-}
-
-// The schedule of the words of a key of n bytes; a refusal where no key has n bytes.
-pub fn expand(n: usize, words: [[u8; 16]; 4]) -> Prepared
+// The schedule of the words of a key of n bytes; refusal 1 where no key has n bytes.
+#[tactic(auto, using(crate::proofs::KeyLengths::expand_refused))]
+pub fn expand(n: usize, words: [[u8; 16]; 4]) -> Result<GoodSchedule, Refusal>
     ensures { Expands n words result }
 {
-    let rounds = rounds_for(n);
-    if rounds == 0 {
-        return refused(Outcome::KeyLength);
-    }
-    ready(rounds, key_bytes(encryption_keys(words), rounds + 1))
+    let rounds = rounds_for(n)?;
+    let all = encryption_keys(words);
+    let keys = key_bytes(
+        rounds + 1,
+        |i: usize|
+            requires { i < 17 }
+            ensures { result ≡ get_or all i [] }
+        { all[i] },
+    );
+    let schedule = Schedule { rounds, keys };
+    Ok(GoodSchedule { schedule })
 }
 
 // Decryption key i, counted from 0, of the keys for n rounds.
+#[tactic(auto, using(crate::proofs::Reversal::outer_key, crate::proofs::Reversal::inner_key))]
 fn decryption_key(keys: &[u8; 272], n: usize, i: usize) -> [u8; 16]
     requires { i ≤ n }
     ensures { result ≡ decryption_key n keys.now i }
 {
     let key = circuit::round_key(keys, n - i);
-    if i == 0 {
-        return key;
+    if i == 0 || i == n {
+        key
+    } else {
+        diffusion::diffuse(key)
     }
-    if i == n {
-        return key;
-    }
-    diffusion::diffuse(key)
 }
 
-// The key bytes of the decryption schedule for n rounds.
-fn decryption_keys(keys: &[u8; 272], n: usize) -> [u8; 272]
-    requires { n ≤ 16 }
-    ensures { result ≡ decryption_keys n keys.now }
+// The schedule that undoes a good schedule (01's turning round).
+pub fn reversed(good: GoodSchedule) -> GoodSchedule
+    ensures { result.schedule ≡ decryption_of good.schedule }
 {
-    let mut reversed = [0u8; 272];
-    let mut i: usize = 0;
-    while i <= n {
-        let next = put(reversed, i, decryption_key(keys, n, i));
-        reversed = next;
-        i += 1;
-    }
-    reversed
+    let rounds = good.schedule.rounds;
+    let used = good.schedule.keys;
+    let keys = key_bytes(
+        rounds + 1,
+        |i: usize|
+            requires { i ≤ rounds }
+            ensures { result ≡ decryption_key rounds used i }
+        { decryption_key(&used, rounds, i) },
+    );
+    let schedule = Schedule { rounds, keys };
+    GoodSchedule { schedule }
 }
 
-// The schedule that undoes a schedule (01's turning round).
-pub fn decryption_schedule(schedule: Schedule) -> Prepared
+// The schedule that undoes a schedule; refusal 3 where its round count is no good.
+#[tactic(auto, using(crate::proofs::Reversal::reverse_refused))]
+pub fn decryption_schedule(schedule: Schedule) -> Result<GoodSchedule, Refusal>
     ensures { Reverses schedule result }
 {
-    let n = schedule.rounds;
-    if refusals::rounds(n) != 0 {
-        return refused(Outcome::RoundCount);
-    }
-    let keys = schedule.keys;
-    ready(n, decryption_keys(&keys, n))
+    let good = GoodSchedule::try_from(schedule)?;
+    Ok(reversed(good))
 }

@@ -6,6 +6,8 @@ use mathlib.Core.List.{List}
 use Prim.Native.Nat.{ℕ}
 use lib.Dec.{eqb}
 use Rattle.refusals.specs.Cases.{positive, lacks}
+use Rattle.refusals.proofs.Cases.{first_stop, first_pass}
+use Rattle.refusals.proofs.Numbers.{number_some}
 use Rattle.header.specs.Cases.{front_cases, field_cases, header_cases}
 
 -- m is the number of no case: computed where m is a numeral
@@ -19,6 +21,9 @@ not_of_header m =
 pub front_positive : (layout : ℕ) (file : List ℕ) → positive (front_cases layout file) ≡ true
 unfolding front_cases positive
 front_positive layout file = refl
+
+-- the length and the layout first, then the other fields: a refusal of the first stands, and else the second is left
+pub ruleset in_stages = (first_stop, first_pass, number_some, front_positive)
 
 module _ (layout keysize : ℕ) (check file : List ℕ) where
   pub header_positive : positive (header_cases layout keysize check file) ≡ true

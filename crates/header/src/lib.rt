@@ -3,12 +3,15 @@
 
 ghost use Rattle.std.specs.Prelude.{◌≡◌, ◌+◌, ◌<◌, ◌≤◌};
 ghost use Rattle.refusals.specs.Cases.{first_of};
+ghost use Rattle.refusals.specs.Numbers.{number_in};
 ghost use Rattle.header.specs.Fields.{layout_of, is_layout, tag_size, count_of, NumberPart, directory_end, DirectoryPart, bodies_end};
 ghost use Rattle.header.specs.Cases.{front_cases, field_cases, header_cases};
 
 use octets::{byte_at, part, same, u16_at, u32_at};
+use refusals::Refusal;
 
 // The count of jobs.
+#[tactic(auto, unfolding(crate::specs::Fields::count_of))]
 pub fn count(file: &[u8]) -> usize
     ensures { (result ≡ count_of file.now) × (result < 65536) }
 {
@@ -16,6 +19,7 @@ pub fn count(file: &[u8]) -> usize
 }
 
 // The archive number, a part of the file.
+#[tactic(auto, unfolding(crate::specs::Fields::archive_number))]
 pub fn archive_number(file: &[u8]) -> &[u8]
     ensures { NumberPart file.entry result }
 {
@@ -37,55 +41,49 @@ pub fn directory(file: &[u8]) -> &[u8]
 }
 
 // How many bytes the tag has, by the layout.
+#[tactic(auto, unfolding(crate::specs::Fields::tag_size))]
 pub fn tag_size(file: &[u8]) -> usize
     ensures { (result ≡ tag_size (layout_of file.now)) × (result ≤ 16) }
 {
-    if byte_at(file, 0) == 2 {
-        return 16;
+    match byte_at(file, 0) {
+        2 => 16,
+        _ => 0,
     }
-    0
 }
 
 // Where the bodies have to end: at the tag, or at the file's end where there is none.
 pub fn bodies_end(file: &[u8]) -> usize
     ensures { result ≡ bodies_end file.now }
 {
-    let len = file.len();
-    let size = tag_size(file);
-    if len < size {
-        return 0;
-    }
-    len - size
+    file.len().saturating_sub(tag_size(file))
 }
 
+#[tactic(auto, unfolding(crate::specs::Fields::is_layout))]
 fn is_layout(n: usize) -> bool
     ensures { result ≡ is_layout n }
 {
-    if n == 1 {
-        return true;
-    }
-    n == 2
+    matches!(n, 1 | 2)
 }
 
-// The refusal of the file's length or its layout, which has to be `layout`, or 0.
-fn front_refusal(layout: usize, file: &[u8]) -> u32
-    ensures { result ≡ first_of (front_cases layout file.now) }
+// The file's length and its layout, which has to be `layout`.
+#[tactic(auto, unfolding(refusals::specs::Cases::first_of, crate::specs::Cases::front_cases))]
+fn check_front(layout: usize, file: &[u8]) -> Result<(), Refusal>
+    ensures { number_in result ≡ first_of (front_cases layout file.now) }
 {
-    let len = file.len();
-    if len < 20 {
-        return 5;
+    if file.len() < 20 {
+        return Err(Refusal::FileTooShort);
     }
-    if 65536 < len {
-        return 6;
+    if 65536 < file.len() {
+        return Err(Refusal::FileTooLong);
     }
     let stated = byte_at(file, 0);
     if !is_layout(stated) {
-        return 7;
+        return Err(Refusal::UnknownLayout);
     }
     if stated != layout {
-        return 24;
+        return Err(Refusal::OtherLayout);
     }
-    0
+    Ok(())
 }
 
 // How long a file of this layout and count is at least: header, directory and tag.
@@ -95,36 +93,34 @@ fn least_length(file: &[u8]) -> usize
     20 + 16 * count(file) + tag_size(file)
 }
 
-// The refusal of the other fields, or 0.
-fn field_refusal(keysize: usize, check: [u8; 8], file: &[u8]) -> u32
-    ensures { result ≡ first_of (field_cases keysize check file.now) }
+// The other fields.
+#[tactic(auto, unfolding(refusals::specs::Cases::first_of, crate::specs::Cases::field_cases))]
+fn check_fields(keysize: usize, check: [u8; 8], file: &[u8]) -> Result<(), Refusal>
+    ensures { number_in result ≡ first_of (field_cases keysize check file.now) }
 {
     if byte_at(file, 1) != keysize {
-        return 8;
+        return Err(Refusal::OtherKeySize);
     }
     if 64 < count(file) {
-        return 9;
+        return Err(Refusal::JobCount);
     }
-    let len = file.len();
-    if u32_at(file, 16) != len {
-        return 10;
+    if u32_at(file, 16) != file.len() {
+        return Err(Refusal::StatedLength);
     }
-    if len < least_length(file) {
-        return 11;
+    if file.len() < least_length(file) {
+        return Err(Refusal::NoRoom);
     }
     if !same(part(file, 8, 8), &check) {
-        return 12;
+        return Err(Refusal::KeyCheck);
     }
-    0
+    Ok(())
 }
 
-// The refusal of the header in a file of `layout` under a key of `keysize` bytes whose key check is `check`, or 0.
-pub fn refusal(layout: usize, keysize: usize, check: [u8; 8], file: &[u8]) -> u32
-    ensures { result ≡ first_of (header_cases layout keysize check file.now) }
+// Checks the header of a file that has to be of `layout`, under a key of `keysize` bytes whose key check is `check`.
+#[tactic(auto, using(crate::proofs::Cases::in_stages), unfolding(crate::specs::Cases::header_cases))]
+pub fn check(layout: usize, keysize: usize, check: [u8; 8], file: &[u8]) -> Result<(), Refusal>
+    ensures { number_in result ≡ first_of (header_cases layout keysize check file.now) }
 {
-    let n = front_refusal(layout, file);
-    if n != 0 {
-        return n;
-    }
-    field_refusal(keysize, check, file)
+    check_front(layout, file)?;
+    check_fields(keysize, check, file)
 }

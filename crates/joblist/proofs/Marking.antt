@@ -17,7 +17,10 @@ use Rattle.header.specs.Fields.{directory_of}
 use Rattle.directory.specs.Search.{index_of}
 use Rattle.joblist.specs.List.{numbers, listed, list_cases}
 use Rattle.joblist.specs.Marks.{named_by, Marked}
-use Rattle.joblist.specs.declared.Marks.{Marks}
+use Rattle.std.specs.Prelude.{Result, Ok, Err}
+use Rattle.refusals.specs.Numbers.{number, number_in}
+use Rattle.refusals.specs.declared.Refusal.{Refusal}
+use Rattle.refusals.proofs.Numbers.{number_some}
 
 -- ---- marks
 
@@ -71,18 +74,15 @@ mark_none named i j h = rw (ne_eqb i j h) (or_false (get_or named j false))
 
 -- ---- the ways out
 
-module _ (file list : List ℕ) (r : Marks) where
-  pub marked_refused : (n : ℕ) → n ≡ first_of (list_cases file list) → (n ≡ 0 → ⊥) → r.number ≡ n
-      → ((i : ℕ) → get_or r.named i false ≡ false) → Marked file list r
-  marked_refused n e h en none = record {
-    number = en ∙ e;
-    named = λ i l.
-        none i ∙ ap (λ (b : Bool). b && named_by file list (numbers list) i) (sym (ap (λ (m : ℕ). eqb m 0) en ∙ ne_eqb n 0 h));
+module _ (file list : List ℕ) where
+  pub marked_refused : (r : Result (List Bool) Refusal) (e : Refusal) → number_in r ≡ number e → number e ≡ first_of (list_cases file list)
+      → Marked file list r
+  marked_refused (Ok named) e is q = absurd (number_some e (sym is))
+  marked_refused (Err d) e is q = record {
+    number = is ∙ q;
+    named = λ i l. ap (λ (b : Bool). b && named_by file list (numbers list) i) (sym (ne_eqb (number d) 0 (number_some d)));
   }
 
-  pub marked_all : first_of (list_cases file list) ≡ 0 → r.number ≡ 0
-      → ((i : ℕ) → i < 64 → get_or r.named i false ≡ named_by file list (numbers list) i) → Marked file list r
-  marked_all e en all = record {
-    number = en ∙ sym e;
-    named = λ i l. all i l ∙ ap (λ (b : Bool). b && named_by file list (numbers list) i) (sym (eq-eqb r.number 0 en));
-  }
+  pub marked_all : (named : List Bool) → first_of (list_cases file list) ≡ 0
+      → ((i : ℕ) → i < 64 → get_or named i false ≡ named_by file list (numbers list) i) → Marked file list (Ok named)
+  marked_all named e all = record { number = sym e; named = all }

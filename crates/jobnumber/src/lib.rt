@@ -8,6 +8,7 @@ ghost use Rattle.jobnumber.specs.Number.{digits, is_job_number, job_number, cent
 use decimal::digit_at;
 
 // Whether the first eight bytes are digits.
+#[tactic(auto, unfolding(crate::specs::Number::digits))]
 pub fn all_digits(s: &[u8]) -> bool
     ensures { result ≡ digits s.now }
 {
@@ -15,13 +16,11 @@ pub fn all_digits(s: &[u8]) -> bool
 }
 
 // Whether a job number may be asked for: eight bytes, all digits.
+#[tactic(auto, unfolding(crate::specs::Number::is_job_number))]
 pub fn is_job_number(s: &[u8]) -> bool
     ensures { result ≡ is_job_number s.now }
 {
-    if s.len() != 8 {
-        return false;
-    }
-    all_digits(s)
+    s.len() == 8 && all_digits(s)
 }
 
 // The number that the digits at two places are.
@@ -32,6 +31,7 @@ fn pair(s: &[u8], tens: usize, ones: usize) -> usize
 }
 
 // The first two of the four digits of a job number's year.
+#[tactic(auto, using(crate::proofs::Order::century_old, crate::proofs::Order::century_recent))]
 fn century_of(s: &[u8]) -> usize
     ensures { (result ≡ century_of s.now) × (result < 100) }
 {

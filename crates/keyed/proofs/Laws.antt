@@ -9,7 +9,7 @@ use native.Mathlib.Omega.{arith}
 use lib.ListN.{length}
 use Rattle.refusals.specs.Answers.{unless_refused}
 use Rattle.refusals.specs.Shared.{good_key}
-use Rattle.refusals.proofs.Shared.{key_1}
+use Rattle.refusals.proofs.Shared.{key_0, key_1, direction_0}
 use Rattle.blocks.specs.Runs.{each_block}
 use Rattle.blocks.proofs.Runs.{each_length, each_undo}
 use Rattle.circuit.specs.Run.{encrypted}
@@ -42,7 +42,8 @@ same_number : (n d e len : ℕ) → d ≤ 1 → e ≤ 1 → key_run_number n d l
 same_number n d e len hd he = by_key (good_key n) refl
   where
     by_key : (a : Bool) → good_key n ≡ a → key_run_number n d len ≡ key_run_number n e len
-    by_key true p = number_whole n d len p hd ∙ sym (number_whole n e len p he)
+    by_key true p =
+        number_whole n d len (key_0 n p) (direction_0 d hd) ∙ sym (number_whole n e len (key_0 n p) (direction_0 e he))
     by_key false p = bad_number n d len p ∙ sym (bad_number n e len p)
 
 -- a key is good where a run under it is not refused

@@ -4,47 +4,41 @@
 // short; and opens ranges, on both sides of the job's end and of the buffer's. Then checks the tagged sample and the other under tag keys
 // that fit and that do not, and the tagged one with a bit changed, and makes the same calls on it. Then seals, refused by each case, and
 // the jobs of the samples, which gives both archives again. Then searches bare directories, also such as no archive has. Then runs the
-// block of RFC 5794, A.1, by each engine as `roundtrip::run_by` picks it. Then tags the front of the sample archive, and compares tags,
+// block of RFC 5794, A.1, by each engine as `engines::run_by` picks it. Then tags the front of the sample archive, and compares tags,
 // under the key and under schedules.
 // tests/known_answers/make_expected.py makes the stored output from the model of the archive and from libcrypto. The readings marked P are
 // `readings_hold` of crate `readings`.
 #![tactic(auto)]
 
-use archive::Checked;
 use circuit::Schedule;
-use cmac::{Tagged, Verdict};
-use directory::Found;
-use expansion::Outcome;
-use opening::Opened;
-use roundtrip::Engine;
-use sealing::Sealed;
+use engines::Engine;
+use hexbytes::Hex;
+use refusals::Refusal;
 
 // The key of RFC 5794, A.1.
 const KEY: [u8; 16] = [0, 1, 2, 3, 4, 5, 6, 7, 8, 9, 10, 11, 12, 13, 14, 15];
 
+// The plain block of RFC 5794, appendix A.
+const RFC_BLOCK: [u8; 16] = [
+    0x00, 0x11, 0x22, 0x33, 0x44, 0x55, 0x66, 0x77, 0x88, 0x99, 0xaa, 0xbb, 0xcc, 0xdd, 0xee, 0xff,
+];
+
+// Bytes that are a text.
 fn print(rt: &HostRuntime, text: &[u8]) {
     let _ = rt.write_all(text);
 }
 
-fn print_hex(rt: &HostRuntime, bytes: &[u8]) {
-    let mut i: usize = 0;
-    while i < bytes.len() {
-        let byte = octets::byte_at(bytes, i);
-        let _ = print!(rt; "{byte:02x}");
-        i += 1;
-    }
-}
-
 // A line: the case, and bytes.
-fn print_line(rt: &HostRuntime, case: &[u8], bytes: &[u8]) {
-    print(rt, case);
-    print_hex(rt, bytes);
-    print(rt, b"\n");
+fn print_line(rt: &HostRuntime, case: &str, bytes: &[u8]) {
+    let _ = println!(rt; "{case}{}", Hex(bytes));
 }
 
-fn print_number(rt: &HostRuntime, text: &[u8], n: u64) {
-    print(rt, text);
-    let _ = print!(rt; "{n}");
+// A text, and what a call answers: a number after a word of its own, or the refusal.
+fn print_answer(rt: &HostRuntime, text: &str, word: &str, answer: Result<usize, Refusal>) {
+    let _ = match answer {
+        Ok(n) => print!(rt; "{text}{word} {n}"),
+        Err(refusal) => print!(rt; "{text}refused {}", u32::from(refusal)),
+    };
 }
 
 fn byte(n: usize) -> u8 {
@@ -75,62 +69,45 @@ fn entry(i: u8, start: usize) -> [u8; 16] {
     ]
 }
 
-// The file with an entry put into its place in the directory.
-fn with_entry(before: [u8; 65537], i: u8, start: usize) -> [u8; 65537] {
-    let mut file = before;
-    let at = 20 + 16 * (i as usize);
-    blocks::store(entry(i, start), &mut file[at..]);
-    file
-}
-
 // A file that begins with an archive of so many jobs.
 fn archived(jobs: u8) -> [u8; 65537] {
     let end = 20 + 16 * (jobs as usize);
     let mut file = headed(1, jobs, end);
-    let mut i: u8 = 0;
-    while i < jobs {
-        let next = with_entry(file, i, end);
-        file = next;
-        i += 1;
+    for i in 0..jobs {
+        blocks::store(entry(i, end), &mut file[20 + 16 * usize::from(i)..]);
     }
     file
 }
 
 // A line: the case, and what checking answers.
-fn print_check(rt: &HostRuntime, case: &[u8], tag_key: &[u8], file: &[u8]) {
-    let key = KEY;
-    let checked = archive::check(&key, tag_key, file);
-    print(rt, case);
-    match checked {
-        Checked::Jobs(n) => print_number(rt, b"jobs ", n as u64),
-        Checked::Refused(n) => print_number(rt, b"refused ", n as u64),
-    }
+fn print_check(rt: &HostRuntime, case: &str, tag_key: &[u8], file: &[u8]) {
+    print_answer(rt, case, "jobs", archive::check(&KEY, tag_key, file));
     print(rt, b"\n");
 }
 
 fn short_file(rt: &HostRuntime) {
     let file = headed(1, 0, 19);
-    print_check(rt, b"19 bytes: ", b"", &file[0..19]);
+    print_check(rt, "19 bytes: ", b"", &file[0..19]);
 }
 
 fn layout_2(rt: &HostRuntime) {
     let file = headed(2, 0, 20);
-    print_check(rt, b"20 bytes with layout 2: ", b"", &file[0..20]);
+    print_check(rt, "20 bytes with layout 2: ", b"", &file[0..20]);
 }
 
 fn long_file(rt: &HostRuntime) {
     let file = headed(1, 0, 65537);
-    print_check(rt, b"65537 bytes: ", b"", &file);
+    print_check(rt, "65537 bytes: ", b"", &file);
 }
 
 fn count_64(rt: &HostRuntime) {
     let file = archived(64);
-    print_check(rt, b"count 64: ", b"", &file[0..1044]);
+    print_check(rt, "count 64: ", b"", &file[0..1044]);
 }
 
 fn count_65(rt: &HostRuntime) {
     let file = archived(65);
-    print_check(rt, b"count 65: ", b"", &file[0..1060]);
+    print_check(rt, "count 65: ", b"", &file[0..1060]);
 }
 
 // The archive that docs/FORMAT.md works byte by byte, examples/sample/archive.bin: two jobs, of `dried` and of no bytes.
@@ -148,11 +125,8 @@ fn sample_file() -> [u8; 57] {
 }
 
 // The end of a line: what finding or a search answers.
-fn print_place(rt: &HostRuntime, found: Found) {
-    match found {
-        Found::At(i) => print_number(rt, b": index ", i as u64),
-        Found::Refused(n) => print_number(rt, b": refused ", n as u64),
-    }
+fn print_place(rt: &HostRuntime, found: Result<usize, Refusal>) {
+    print_answer(rt, ": ", "index", found);
     print(rt, b"\n");
 }
 
@@ -165,18 +139,14 @@ fn print_found(rt: &HostRuntime, key: &[u8], tag_key: &[u8], file: &[u8], number
 fn print_body(rt: &HostRuntime, key: &[u8], tag_key: &[u8], file: &[u8], number: &[u8]) {
     print(rt, b"body of ");
     print(rt, number);
-    print(rt, b": '");
-    print_hex(rt, archive::body(key, tag_key, file, number));
-    print(rt, b"'\n");
+    let body = archive::body(key, tag_key, file, number);
+    let _ = println!(rt; ": '{}'", Hex(body));
 }
 
-// The end of a line: what opening answers, and the buffer whole.
-fn print_answer(rt: &HostRuntime, opened: Opened, buffer: &[u8]) {
-    match opened {
-        Opened::Bytes(n) => print_number(rt, b" bytes: bytes ", n as u64),
-        Opened::Refused(n) => print_number(rt, b" bytes: refused ", n as u64),
-    }
-    print_line(rt, b", buffer ", buffer);
+// The end of a line: what opening or sealing answers, and the buffer whole.
+fn print_written(rt: &HostRuntime, answer: Result<usize, Refusal>, buffer: &[u8]) {
+    print_answer(rt, " bytes: ", "bytes", answer);
+    print_line(rt, ", buffer ", buffer);
 }
 
 fn print_opened(
@@ -189,12 +159,9 @@ fn print_opened(
 ) {
     print(rt, b"open ");
     print(rt, number);
-    print_number(rt, b" in ", buffer.len() as u64);
-    print_answer(
-        rt,
-        opening::open(key, tag_key, file, number, buffer),
-        buffer,
-    );
+    let _ = print!(rt; " in {}", buffer.len());
+    let opened = opening::open(key, tag_key, file, number, buffer);
+    print_written(rt, opened, buffer);
 }
 
 fn print_range(
@@ -209,14 +176,9 @@ fn print_range(
 ) {
     print(rt, b"open ");
     print(rt, number);
-    print_number(rt, b" from ", first as u64);
-    print_number(rt, b", count ", count as u64);
-    print_number(rt, b", in ", buffer.len() as u64);
-    print_answer(
-        rt,
-        opening::open_range(key, tag_key, file, number, first, count, buffer),
-        buffer,
-    );
+    let _ = print!(rt; " from {first}, count {count}, in {}", buffer.len());
+    let opened = opening::open_range(key, tag_key, file, number, first, count, buffer);
+    print_written(rt, opened, buffer);
 }
 
 // A job that is not there, and the one of five bytes. A buffer keeps what it had where the job is not there, past the plain bytes, and
@@ -270,7 +232,7 @@ fn open_ranges_short(rt: &HostRuntime, key: &[u8], tag_key: &[u8], file: &[u8]) 
 fn sample_calls(rt: &HostRuntime, key: &[u8], tag_key: &[u8], file: &[u8]) {
     print_found(rt, key, tag_key, file, b"24000018");
     print_found(rt, key, tag_key, file, b"24000019");
-    print_line(rt, b"directory: ", archive::directory(key, tag_key, file));
+    print_line(rt, "directory: ", archive::directory(key, tag_key, file));
     print_body(rt, key, tag_key, file, b"24000017");
     print_body(rt, key, tag_key, file, b"24000019");
     open_jobs(rt, key, tag_key, file);
@@ -311,19 +273,19 @@ fn tag_bytes() -> [u8; 33] {
 
 // The tagged sample under no tag key, under ones of a wrong length, under another and under its own; and the other sample under a tag key.
 fn tag_keys(rt: &HostRuntime, key: &[u8], tag_key: &[u8], file: &[u8], untagged: &[u8]) {
-    print_check(rt, b"tagged, no tag key: ", b"", file);
-    print_check(rt, b"tagged, 33 bytes of tag key: ", tag_key, file);
+    print_check(rt, "tagged, no tag key: ", b"", file);
+    print_check(rt, "tagged, 33 bytes of tag key: ", tag_key, file);
     print_check(
         rt,
-        b"tagged, 31 bytes of tag key: ",
+        "tagged, 31 bytes of tag key: ",
         octets::part(tag_key, 0, 31),
         file,
     );
-    print_check(rt, b"tagged, under the key: ", key, file);
-    print_check(rt, b"tagged: ", octets::part(tag_key, 0, 32), file);
+    print_check(rt, "tagged, under the key: ", key, file);
+    print_check(rt, "tagged: ", octets::part(tag_key, 0, 32), file);
     print_check(
         rt,
-        b"layout 1 under a tag key: ",
+        "layout 1 under a tag key: ",
         octets::part(tag_key, 0, 32),
         untagged,
     );
@@ -340,13 +302,13 @@ fn bit_changed(at: usize) -> [u8; 73] {
 // The tagged sample with a bit changed of its tag, of a body, and of the archive number.
 fn tagged_changes(rt: &HostRuntime, tag_key: &[u8]) {
     let tag = bit_changed(72);
-    print_check(rt, b"tagged, its last bit changed: ", tag_key, &tag);
+    print_check(rt, "tagged, its last bit changed: ", tag_key, &tag);
     let body = bit_changed(56);
-    print_check(rt, b"tagged, a bit of the body changed: ", tag_key, &body);
+    print_check(rt, "tagged, a bit of the body changed: ", tag_key, &body);
     let number = bit_changed(7);
     print_check(
         rt,
-        b"tagged, a bit of the archive number changed: ",
+        "tagged, a bit of the archive number changed: ",
         tag_key,
         &number,
     );
@@ -365,21 +327,16 @@ fn tagged_sample(rt: &HostRuntime, key: &[u8], untagged: &[u8]) {
 // A line: the case, the buffer's length, what sealing answers, and the buffer whole.
 fn print_sealed(
     rt: &HostRuntime,
-    case: &[u8],
+    case: &str,
     key_file: &[u8],
     tag_key: &[u8],
     sheet: &[u8],
     plain: &[u8],
     buffer: &mut [u8],
 ) {
-    print(rt, case);
-    print_number(rt, b" in ", buffer.len() as u64);
+    let _ = print!(rt; "{case} in {}", buffer.len());
     let sealed = sealing::seal(key_file, tag_key, sheet, plain, buffer);
-    match sealed {
-        Sealed::Bytes(n) => print_number(rt, b" bytes: bytes ", n as u64),
-        Sealed::Refused(n) => print_number(rt, b" bytes: refused ", n as u64),
-    }
-    print_line(rt, b", buffer ", buffer);
+    print_written(rt, sealed, buffer);
 }
 
 // The sheet of both samples.
@@ -403,10 +360,10 @@ fn seal_equal_lines(rt: &HostRuntime, key: &[u8], buffer: &mut [u8]) {
     let mut sheet = [b'0'; 785];
     let front = sample_sheet();
     octets::put(&mut sheet, 0, octets::part(&front, 0, 5));
-    print_sealed(rt, b"seal, 65 lines", key, b"", &sheet, b"dried", buffer);
+    print_sealed(rt, "seal, 65 lines", key, b"", &sheet, b"dried", buffer);
     print_sealed(
         rt,
-        b"seal, 64 lines of one number",
+        "seal, 64 lines of one number",
         key,
         b"",
         octets::part(&sheet, 0, 773),
@@ -420,7 +377,7 @@ fn seal_lines(rt: &HostRuntime, key: &[u8], buffer: &mut [u8]) {
     let number = sheet_with(12, b"/");
     print_sealed(
         rt,
-        b"seal, number 2400001/",
+        "seal, number 2400001/",
         key,
         b"",
         &number,
@@ -430,7 +387,7 @@ fn seal_lines(rt: &HostRuntime, key: &[u8], buffer: &mut [u8]) {
     let order = sheet_with(12, b"9");
     print_sealed(
         rt,
-        b"seal, 24000019 before 24000018",
+        "seal, 24000019 before 24000018",
         key,
         b"",
         &order,
@@ -444,7 +401,7 @@ fn seal_sheets(rt: &HostRuntime, key: &[u8], buffer: &mut [u8]) {
     let sheet = sample_sheet();
     print_sealed(
         rt,
-        b"seal, 28 bytes of sheet",
+        "seal, 28 bytes of sheet",
         key,
         b"",
         octets::part(&sheet, 0, 28),
@@ -454,7 +411,7 @@ fn seal_sheets(rt: &HostRuntime, key: &[u8], buffer: &mut [u8]) {
     let length = sheet_with(0, b"\x11");
     print_sealed(
         rt,
-        b"seal, key length 17",
+        "seal, key length 17",
         key,
         b"",
         &length,
@@ -464,7 +421,7 @@ fn seal_sheets(rt: &HostRuntime, key: &[u8], buffer: &mut [u8]) {
     let long = sheet_with(25, b"\x00\x00\xff\xc8");
     print_sealed(
         rt,
-        b"seal, 65537 bytes of archive",
+        "seal, 65537 bytes of archive",
         key,
         b"",
         &long,
@@ -478,7 +435,7 @@ fn seal_keys(rt: &HostRuntime, key: &[u8], tag_key: &[u8], buffer: &mut [u8]) {
     let sheet = sample_sheet();
     print_sealed(
         rt,
-        b"seal, 15 bytes of key file",
+        "seal, 15 bytes of key file",
         octets::part(key, 0, 15),
         b"",
         &sheet,
@@ -487,7 +444,7 @@ fn seal_keys(rt: &HostRuntime, key: &[u8], tag_key: &[u8], buffer: &mut [u8]) {
     );
     print_sealed(
         rt,
-        b"seal, 33 bytes of tag key",
+        "seal, 33 bytes of tag key",
         key,
         tag_key,
         &sheet,
@@ -499,18 +456,10 @@ fn seal_keys(rt: &HostRuntime, key: &[u8], tag_key: &[u8], buffer: &mut [u8]) {
 // Plain bytes too few and too many.
 fn seal_plains(rt: &HostRuntime, key: &[u8], buffer: &mut [u8]) {
     let sheet = sample_sheet();
+    print_sealed(rt, "seal, 4 plain bytes", key, b"", &sheet, b"drie", buffer);
     print_sealed(
         rt,
-        b"seal, 4 plain bytes",
-        key,
-        b"",
-        &sheet,
-        b"drie",
-        buffer,
-    );
-    print_sealed(
-        rt,
-        b"seal, 6 plain bytes",
+        "seal, 6 plain bytes",
         key,
         b"",
         &sheet,
@@ -525,18 +474,18 @@ fn seal_samples(rt: &HostRuntime, key: &[u8], tag_key: &[u8], buffer: &mut [u8])
     let mut short = [b'.'; 56];
     print_sealed(
         rt,
-        b"seal, the sample",
+        "seal, the sample",
         key,
         b"",
         &sheet,
         b"dried",
         &mut short,
     );
-    print_sealed(rt, b"seal, the sample", key, b"", &sheet, b"dried", buffer);
+    print_sealed(rt, "seal, the sample", key, b"", &sheet, b"dried", buffer);
     let mut tagged_short = [b'.'; 72];
     print_sealed(
         rt,
-        b"seal, the tagged sample",
+        "seal, the tagged sample",
         key,
         tag_key,
         &sheet,
@@ -546,7 +495,7 @@ fn seal_samples(rt: &HostRuntime, key: &[u8], tag_key: &[u8], buffer: &mut [u8])
     let mut tagged = [b'.'; 74];
     print_sealed(
         rt,
-        b"seal, the tagged sample",
+        "seal, the tagged sample",
         key,
         tag_key,
         &sheet,
@@ -556,7 +505,7 @@ fn seal_samples(rt: &HostRuntime, key: &[u8], tag_key: &[u8], buffer: &mut [u8])
 }
 
 // The sample's jobs with this key length on their sheet, into a buffer of its own.
-fn seal_key_length(rt: &HostRuntime, case: &[u8], length: &[u8], key_file: &[u8]) {
+fn seal_key_length(rt: &HostRuntime, case: &str, length: &[u8], key_file: &[u8]) {
     let sheet = sheet_with(0, length);
     let mut buffer = [b'.'; 60];
     print_sealed(rt, case, key_file, b"", &sheet, b"dried", &mut buffer);
@@ -567,26 +516,16 @@ fn seal_short_key_files(rt: &HostRuntime, key_file: &[u8]) {
     let of_16 = octets::part(key_file, 0, 16);
     let of_24 = octets::part(key_file, 0, 24);
     let of_31 = octets::part(key_file, 0, 31);
-    seal_key_length(rt, b"seal, key length 0, key file of 16", b"\x00", of_16);
-    seal_key_length(rt, b"seal, key length 0, key file of 24", b"\x00", of_24);
-    seal_key_length(rt, b"seal, key length 0, key file of 31", b"\x00", of_31);
+    seal_key_length(rt, "seal, key length 0, key file of 16", b"\x00", of_16);
+    seal_key_length(rt, "seal, key length 0, key file of 24", b"\x00", of_24);
+    seal_key_length(rt, "seal, key length 0, key file of 31", b"\x00", of_31);
 }
 
 // A key file with a byte more than any key has: under key length 0, under 32, which gives the same, and under 16, which gives the sample.
 fn seal_long_key_file(rt: &HostRuntime, key_file: &[u8]) {
-    seal_key_length(rt, b"seal, key length 0, key file of 33", b"\x00", key_file);
-    seal_key_length(
-        rt,
-        b"seal, key length 32, key file of 33",
-        b"\x20",
-        key_file,
-    );
-    seal_key_length(
-        rt,
-        b"seal, key length 16, key file of 33",
-        b"\x10",
-        key_file,
-    );
+    seal_key_length(rt, "seal, key length 0, key file of 33", b"\x00", key_file);
+    seal_key_length(rt, "seal, key length 32, key file of 33", b"\x20", key_file);
+    seal_key_length(rt, "seal, key length 16, key file of 33", b"\x10", key_file);
 }
 
 // The 32 bytes of RFC 5794's longest key, which begins with that of the sample, and a byte more.
@@ -692,94 +631,79 @@ fn search_other_years(rt: &HostRuntime) {
     print_search(rt, b"24000017", b"/9000000........24000017........");
 }
 
-// The plain block of RFC 5794, appendix A.
-fn rfc_block() -> [u8; 16] {
-    [
-        0x00, 0x11, 0x22, 0x33, 0x44, 0x55, 0x66, 0x77, 0x88, 0x99, 0xaa, 0xbb, 0xcc, 0xdd, 0xee,
-        0xff,
-    ]
-}
-
 // A line: the engine, and what it makes of the block under the schedule of the key.
-fn print_run(rt: &HostRuntime, case: &[u8], engine: Engine) {
-    let key = KEY;
-    let prepared = preparation::prepare(&key);
-    let outcome = prepared.outcome;
-    let Outcome::Ready = outcome else {
-        return;
-    };
-    let mut block = rfc_block();
-    roundtrip::run_by(engine, prepared.schedule, &mut block);
-    print_line(rt, case, &block);
+fn print_run(rt: &HostRuntime, case: &str, engine: Engine) {
+    let mut block = RFC_BLOCK;
+    if let Ok(prepared) = preparation::prepare(&KEY) {
+        let _ = engines::run_by(engine, prepared.schedule, &mut block);
+        print_line(rt, case, &block);
+    }
 }
 
-// A line: the case, the outcome's number and the tag beside it.
-fn print_tagged(rt: &HostRuntime, case: &[u8], tagged: Tagged) {
-    let outcome = tagged.outcome;
-    let tag = tagged.tag;
-    print_number(rt, case, expansion::number_of(outcome) as u64);
-    print_line(rt, b", tag ", &tag);
+// A line: the case, the number of what tagging answers, and the tag, zero bytes where there is none.
+fn print_tagged(rt: &HostRuntime, case: &str, tagged: Result<[u8; 16], Refusal>) {
+    let tag = tagged.unwrap_or([0; 16]);
+    let _ = println!(rt; "{case}{}, tag {}", refusals::number_of(tagged), Hex(&tag));
 }
 
 // Tags of the front of a file: of no bytes, of less than a block, a block, two blocks, and three and less than a fourth.
 fn tag_lengths(rt: &HostRuntime, key: &[u8], file: &[u8]) {
     print_tagged(
         rt,
-        b"cmac, 0 bytes: ",
+        "cmac, 0 bytes: ",
         cmac::tag(key, octets::part(file, 0, 0)),
     );
     print_tagged(
         rt,
-        b"cmac, 15 bytes: ",
+        "cmac, 15 bytes: ",
         cmac::tag(key, octets::part(file, 0, 15)),
     );
     print_tagged(
         rt,
-        b"cmac, 16 bytes: ",
+        "cmac, 16 bytes: ",
         cmac::tag(key, octets::part(file, 0, 16)),
     );
     print_tagged(
         rt,
-        b"cmac, 32 bytes: ",
+        "cmac, 32 bytes: ",
         cmac::tag(key, octets::part(file, 0, 32)),
     );
-    print_tagged(rt, b"cmac, 57 bytes: ", cmac::tag(key, file));
+    print_tagged(rt, "cmac, 57 bytes: ", cmac::tag(key, file));
 }
 
 // The same under a schedule, under one of 13 rounds, and under a key of 15 bytes.
 fn tag_refusals(rt: &HostRuntime, key: &[u8], good: Schedule, bad: Schedule, file: &[u8]) {
-    print_tagged(rt, b"cmac under a schedule: ", cmac::tag_under(good, file));
-    print_tagged(rt, b"cmac under 13 rounds: ", cmac::tag_under(bad, file));
+    print_tagged(rt, "cmac under a schedule: ", cmac::tag_under(good, file));
+    print_tagged(rt, "cmac under 13 rounds: ", cmac::tag_under(bad, file));
     print_tagged(
         rt,
-        b"cmac under 15 bytes of key: ",
+        "cmac under 15 bytes of key: ",
         cmac::tag(octets::part(key, 0, 15), file),
     );
 }
 
-// A line: the case, and the number of a comparison's verdict.
-fn print_verdict(rt: &HostRuntime, case: &[u8], verdict: Verdict) {
-    print_number(rt, case, cmac::number_of(verdict) as u64);
-    print(rt, b"\n");
+// A line: the case, and the number of what a comparison answers.
+fn print_verdict(rt: &HostRuntime, case: &str, verdict: Result<(), Refusal>) {
+    let _ = println!(rt; "{case}{}", refusals::number_of(verdict));
 }
 
 // Comparisons under a key: with the tag, with another, with a byte too few, and so with a bad key as well.
 fn verify_by_key(rt: &HostRuntime, key: &[u8], file: &[u8], tag: &[u8], other: &[u8]) {
     let short = octets::part(tag, 0, 15);
-    print_verdict(rt, b"verify, the tag: ", cmac::verify(key, file, tag));
+    print_verdict(rt, "verify, the tag: ", cmac::verify(key, file, tag));
     print_verdict(
         rt,
-        b"verify, its last bit changed: ",
+        "verify, its last bit changed: ",
         cmac::verify(key, file, other),
     );
     print_verdict(
         rt,
-        b"verify, 15 bytes of it: ",
+        "verify, 15 bytes of it: ",
         cmac::verify(key, file, short),
     );
     print_verdict(
         rt,
-        b"verify, 15 bytes of key and tag: ",
+        "verify, 15 bytes of key and tag: ",
         cmac::verify(octets::part(key, 0, 15), file, short),
     );
 }
@@ -796,22 +720,22 @@ fn verify_by_schedule(
     let short = octets::part(tag, 0, 15);
     print_verdict(
         rt,
-        b"verify under a schedule, the tag: ",
+        "verify under a schedule, the tag: ",
         cmac::verify_under(good, file, tag),
     );
     print_verdict(
         rt,
-        b"verify under a schedule, its last bit changed: ",
+        "verify under a schedule, its last bit changed: ",
         cmac::verify_under(good, file, other),
     );
     print_verdict(
         rt,
-        b"verify under a schedule, 15 bytes of it: ",
+        "verify under a schedule, 15 bytes of it: ",
         cmac::verify_under(good, file, short),
     );
     print_verdict(
         rt,
-        b"verify under 13 rounds, 15 bytes of it: ",
+        "verify under 13 rounds, 15 bytes of it: ",
         cmac::verify_under(bad, file, short),
     );
 }
@@ -819,26 +743,21 @@ fn verify_by_schedule(
 // The last bit of a tag changed.
 fn changed(tag: [u8; 16]) -> [u8; 16] {
     let mut out = tag;
-    out[15] = out[15] ^ 1;
+    out[15] ^= 1;
     out
 }
 
 // The calls of `cmac`, by the key and by its schedule, and by that with another round count.
-fn sample_tags(rt: &HostRuntime, key: &[u8], file: &[u8]) {
-    let prepared = preparation::prepare(key);
-    let outcome = prepared.outcome;
-    let Outcome::Ready = outcome else {
-        return;
-    };
-    let good = prepared.schedule;
-    let keys = good.keys;
-    let bad = Schedule { rounds: 13, keys };
-    let tag = cmac::tag(key, file).tag;
+fn sample_tags(rt: &HostRuntime, key: &[u8], file: &[u8]) -> Result<(), Refusal> {
+    let good = preparation::prepare(key)?.schedule;
+    let bad = Schedule { rounds: 13, ..good };
+    let tag = cmac::tag(key, file)?;
     let other = changed(tag);
     tag_lengths(rt, key, file);
     tag_refusals(rt, key, good, bad, file);
     verify_by_key(rt, key, file, &tag, &other);
     verify_by_schedule(rt, good, bad, file, &tag, &other);
+    Ok(())
 }
 
 fn main(rt: HostRuntime) {
@@ -847,11 +766,10 @@ fn main(rt: HostRuntime) {
     long_file(&rt);
     count_64(&rt);
     count_65(&rt);
-    let key = KEY;
     let file = sample_file();
-    sample_calls(&rt, &key, b"", &file);
-    tagged_sample(&rt, &key, &file);
-    sample_seals(&rt, &key);
+    sample_calls(&rt, &KEY, b"", &file);
+    tagged_sample(&rt, &KEY, &file);
+    sample_seals(&rt, &KEY);
     search_absent(&rt);
     search_passed(&rt);
     search_unordered(&rt);
@@ -859,7 +777,7 @@ fn main(rt: HostRuntime) {
     search_other_bytes(&rt);
     search_years(&rt);
     search_other_years(&rt);
-    print_run(&rt, b"plain, RFC 5794 A.1: ", Engine::Plain);
-    print_run(&rt, b"tables, RFC 5794 A.1: ", Engine::Tables);
-    sample_tags(&rt, &key, &file);
+    print_run(&rt, "plain, RFC 5794 A.1: ", Engine::Plain);
+    print_run(&rt, "tables, RFC 5794 A.1: ", Engine::Tables);
+    let _ = sample_tags(&rt, &KEY, &file);
 }

@@ -76,3 +76,8 @@ pub directory_lists : DirectoryLists
 directory_lists key tag_key file n e =
     let printable = lines_printable (directory_of file) (given_printable key tag_key file n (sym e) (directory_of file) refl) in
     sym (text_printable (directory_of file) printable) ∙ given_text key tag_key file n (sym e) (directory_of file) refl
+
+-- the ways out of the test, and of the text
+pub ruleset printable_ways = (printable_many, printable_no, printable_all)
+
+pub ruleset text_ways = (printable_lines, text_printable, text_else)

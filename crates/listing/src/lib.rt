@@ -1,13 +1,13 @@
-// The text that the program `jobs` prints, made in a buffer of its own; of an archive, of a refusal, and of a directory by itself.
+// The text that the program `jobs` prints, of an archive, of a refusal, and of a directory by itself.
 #![tactic(auto)]
 
 ghost use Rattle.std.specs.Prelude.{◌≡◌, [], ◌∷◌, ◌+◌, ◌%◌};
 ghost use Rattle.refusals.specs.Answers.{gives};
-ghost use Rattle.octets.specs.Parts.{Lays};
 ghost use Rattle.directory.specs.Entries.{entries};
 ghost use Rattle.decimal.specs.Decimal.{decimal_digits};
 ghost use Rattle.listing.specs.Text.{
   refused_word,
+  newline,
   field,
   number_line,
   job_line,
@@ -18,86 +18,93 @@ ghost use Rattle.listing.specs.Text.{
   directory_text,
 };
 ghost use Rattle.listing.specs.Listing.{listing_text, Holds};
-ghost use Rattle.listing.specs.Internal.{Printable};
+ghost use Rattle.listing.specs.Internal.{Printable, Puts};
 
-use archive::Checked;
-use octets::{part, put, u32_at};
+use arrayvec::ArrayVec;
+use octets::{part, u32_at};
 
-// A text at the front of a buffer, with zeros behind it: room for a first line of 8 bytes and 64 lines of 21, and no listing is longer.
-#[derive(Clone, Copy)]
-pub struct Listing {
-    pub length: usize,
-    pub text: [u8; 1352],
+// A text: room for a first line of 8 bytes and 64 lines of 21, and no listing is longer.
+pub type Listing = ArrayVec<u8, 1352>;
+
+// Puts bytes behind a text that has room for them, as each function does that puts something.
+fn put(text: &mut Listing, bytes: &[u8])
+    ensures { Puts text.old bytes.now text.new }
+{
+    let _ = text.try_extend_from_slice(bytes);
 }
 
-// Puts the last digit of a number into the text at `at`; answers the place behind it, as each function that puts something does.
-fn put_digit(text: &mut [u8], at: usize, n: usize) -> usize
-    ensures { Lays text.old at ((48 + n % 10) ∷ []) result text.new }
+// Puts the end of a line.
+fn end_line(text: &mut Listing)
+    ensures { Puts text.old newline text.new }
 {
-    let digit = [48 + (n % 10) as u8];
-    put(text, at, &digit)
+    put(text, b"\n");
+}
+
+// Puts the last digit of a number.
+fn put_digit(text: &mut Listing, n: usize)
+    ensures { Puts text.old ((48 + n % 10) ∷ []) text.new }
+{
+    put(text, &[b'0' + (n % 10) as u8]);
 }
 
 // Puts a number in decimal: all but the last digit, then the last.
-fn put_decimal(text: &mut [u8], at: usize, n: usize) -> usize
-    ensures { Lays text.old at (decimal_digits n) result text.new }
+#[tactic(auto, using(crate::proofs::Puts::digit_by_digit))]
+fn put_decimal(text: &mut Listing, n: usize)
+    ensures { Puts text.old (decimal_digits n) text.new }
 {
-    if n < 10 {
-        return put_digit(text, at, n);
+    if n >= 10 {
+        put_decimal(text, n / 10);
     }
-    let next = put_decimal(text, at, n / 10);
-    put_digit(text, next, n)
+    put_digit(text, n);
 }
 
 // Puts a space and a number.
-fn put_field(text: &mut [u8], at: usize, n: usize) -> usize
-    ensures { Lays text.old at (field n) result text.new }
+#[tactic(auto, using(crate::proofs::Puts::puts_then), unfolding(crate::specs::Text::field))]
+fn put_field(text: &mut Listing, n: usize)
+    ensures { Puts text.old (field n) text.new }
 {
-    let next = put(text, at, b" ");
-    put_decimal(text, next, n)
+    put(text, b" ");
+    put_decimal(text, n);
 }
 
 // Puts a line of a word and a number.
-fn put_line(text: &mut [u8], at: usize, word: &[u8], n: usize) -> usize
-    ensures { Lays text.old at (number_line word.now n) result text.new }
+#[tactic(auto, using(crate::proofs::Puts::puts_then), unfolding(crate::specs::Text::number_line))]
+fn put_line(text: &mut Listing, word: &[u8], n: usize)
+    ensures { Puts text.old (number_line word.now n) text.new }
 {
-    let first = put(text, at, word);
-    let next = put_decimal(text, first, n);
-    put(text, next, b"\n")
+    put(text, word);
+    put_decimal(text, n);
+    end_line(text);
 }
 
 // Puts the line of an entry.
-fn put_entry(text: &mut [u8], at: usize, e: &[u8]) -> usize
-    ensures { Lays text.old at (job_line e.now) result text.new }
+#[tactic(auto, using(crate::proofs::Puts::puts_then), unfolding(crate::specs::Text::job_line))]
+fn put_entry(text: &mut Listing, e: &[u8])
+    ensures { Puts text.old (job_line e.now) text.new }
 {
-    let first = put(text, at, part(e, 0, 8));
-    let second = put_field(text, first, u32_at(e, 8));
-    let third = put_field(text, second, u32_at(e, 12));
-    put(text, third, b"\n")
+    put(text, part(e, 0, 8));
+    put_field(text, u32_at(e, 8));
+    put_field(text, u32_at(e, 12));
+    end_line(text);
 }
 
 // Puts the lines of all entries.
-fn put_entries(text: &mut [u8], at: usize, directory: &[u8]) -> usize
-    ensures { Lays text.old at (job_lines directory.now (entries directory.now)) result
-        text.new }
+#[tactic(auto, using(crate::proofs::Puts::by_entries), unfolding(crate::specs::Text::job_lines, blocks::specs::Blocks::row))]
+fn put_entries(text: &mut Listing, directory: &[u8])
+    ensures { Puts text.old (job_lines directory.now (entries directory.now)) text.new }
 {
-    let count = directory.len() / 16;
-    let mut next = at;
-    let mut i: usize = 0;
-    while i < count {
-        next = put_entry(text, next, directory::entry(directory, i));
-        i += 1;
+    for i in 0..directory.len() / 16 {
+        put_entry(text, directory::entry(directory, i));
     }
-    next
 }
 
 // The line of a refusal.
 pub fn refusal(n: u32) -> Listing
     ensures { Holds (number_line refused_word n) result }
 {
-    let mut text = [0u8; 1352];
-    let length = put_line(&mut text, 0, b"refused ", n as usize);
-    Listing { length, text }
+    let mut text = Listing::new();
+    put_line(&mut text, b"refused ", n as usize);
+    text
 }
 
 // The first line and the lines of an archive's jobs.
@@ -105,60 +112,55 @@ fn jobs(directory: &[u8]) -> Listing
     requires { Printable directory.now }
     ensures { Holds (text_of (gives (entries directory.now)) directory.now) result }
 {
-    let mut text = [0u8; 1352];
-    let first = put_line(&mut text, 0, b"jobs ", directory.len() / 16);
-    let length = put_entries(&mut text, first, directory);
-    Listing { length, text }
+    let mut text = Listing::new();
+    put_line(&mut text, b"jobs ", directory.len() / 16);
+    put_entries(&mut text, directory);
+    text
 }
 
 // Whether the start and the length in an entry have at most five digits.
+#[tactic(auto, unfolding(crate::specs::Text::is_short))]
 fn short(e: &[u8]) -> bool
     ensures { result ≡ is_short e.now }
 {
-    if 99999 < u32_at(e, 8) {
-        return false;
-    }
-    u32_at(e, 12) < 100000
+    u32_at(e, 8) < 100000 && u32_at(e, 12) < 100000
 }
 
 // Whether the lines of a directory fit.
+#[tactic(auto, using(crate::proofs::Directories::printable_ways))]
 fn printable(directory: &[u8]) -> bool
     ensures { result ≡ is_printable directory.now }
 {
     let count = directory.len() / 16;
-    if 64 < count {
+    if count > 64 {
         return false;
     }
-    let mut k: usize = 0;
-    while k < count {
-        if !short(directory::entry(directory, k)) {
+    for i in 0..count {
+        if !short(directory::entry(directory, i)) {
             return false;
         }
-        k += 1;
     }
     true
 }
 
 // The text of a directory that somebody holds, as `dropping::preview` writes one; no bytes for one that no accepted archive can have.
+#[tactic(auto, using(crate::proofs::Directories::text_ways))]
 pub fn list_directory(directory: &[u8]) -> Listing
     ensures { Holds (directory_text directory.now) result }
 {
     if !printable(directory) {
-        return Listing {
-            length: 0,
-            text: [0u8; 1352],
-        };
+        return Listing::new();
     }
     jobs(directory)
 }
 
 // The text that `jobs` prints for a key, a tag key and a file.
+#[tactic(auto, using(crate::proofs::Accepted::given_printable, crate::proofs::Accepted::given_text, crate::proofs::Accepted::refused_text))]
 pub fn list(key: &[u8], tag_key: &[u8], file: &[u8]) -> Listing
     ensures { Holds (listing_text key.now tag_key.now file.now) result }
 {
-    let checked = archive::check(key, tag_key, file);
-    match checked {
-        Checked::Refused(n) => refusal(n),
-        Checked::Jobs(_) => jobs(header::directory(file)),
+    match archive::check(key, tag_key, file) {
+        Ok(_) => jobs(header::directory(file)),
+        Err(refused) => refusal(u32::from(refused)),
     }
 }

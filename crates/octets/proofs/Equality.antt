@@ -1,11 +1,12 @@
 -- The test `same_bytes` says whether two lists are equal.
 -- Assumes nothing.
 use mathlib.Core.Path.{◌≡◌, refl, sym, ap, ap₂, ◌∙◌}
-use mathlib.Core.Bool.{true, false}
+use mathlib.Core.Bool.{Bool, true, false, ◌&&◌}
 use mathlib.Core.List.{List, [], ◌∷◌}
 use Prim.Native.Nat.{ℕ}
 use borrow.Author.Tests.{eqb-true, eq-eqb}
 use lib.Dec.{eqb}
+use lib.Pointwise.{pointwise}
 use Rattle.refusals.proofs.Booleans.{true_false, not_yes, both_true}
 use Rattle.octets.specs.Equality.{same_bytes}
 
@@ -28,3 +29,11 @@ eq_same a b e = ap (same_bytes a) (sym e) ∙ same_refl a
 
 pub ne_same : (a b : List ℕ) → (a ≡ b → ⊥) → same_bytes a b ≡ false
 ne_same a b h = not_yes _ (λ e. h (same_eq a b e))
+
+-- equality as std tests it is the same test
+pub pointwise_same : (a b : List ℕ) → pointwise eqb a b ≡ same_bytes a b
+unfolding same_bytes
+pointwise_same [] [] = refl
+pointwise_same [] (y ∷ b) = refl
+pointwise_same (x ∷ a) [] = refl
+pointwise_same (x ∷ a) (y ∷ b) = ap (λ (t : Bool). eqb x y && t) (pointwise_same a b)

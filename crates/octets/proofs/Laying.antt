@@ -3,14 +3,13 @@
 use mathlib.Core.Path.{◌≡◌, refl, sym, ap, ap₂, ◌∙◌, subst}
 use mathlib.Core.Bool.{Bool, cond}
 use mathlib.Core.List.{List, [], ◌++◌, append_assoc}
-use Prim.Native.Nat.{ℕ, ◌+◌, ◌-◌, ◌≤◌, ◌<◌}
+use Prim.Native.Nat.{ℕ, ◌+◌, ◌≤◌, ◌<◌}
 use native.Mathlib.Nat.{add-zero}
 use native.Mathlib.Omega.{arith}
-use lib.ListN.{length, take, drop, length-append, length-drop}
+use lib.ListN.{length, take, drop, length-append}
 use lib.Seq.{take_at, drop_at, drop-drop, take-length, length-take-le, paste, paste-zero, length-paste}
 use borrow.Author.Tests.{le-leb, lt-leb}
-use Rattle.octets.specs.Parts.{overwritten, laid, Puts, Put, Lays}
-use Rattle.octets.proofs.Parts.{overwritten_whole}
+use Rattle.octets.specs.Parts.{laid, Puts, Put, Lays}
 
 pub laid_paste : (xs : List ℕ) (at : ℕ) (s : List ℕ) → laid xs at s ≡ paste xs at s (length s)
 unfolding laid
@@ -59,19 +58,16 @@ module _ {xs ys : List ℕ} {at m : ℕ} {s : List ℕ} where
 pub puts_none : (xs : List ℕ) (at : ℕ) (s : List ℕ) → length xs < at + length s → Puts xs at s at xs
 puts_none xs at s h = record { end = rw (lt-leb (at + length s) (length xs) h); bytes = rw (lt-leb (at + length s) (length xs) h) }
 
--- the part of k bytes at `at` comes back with s laid over it
-pub puts_some : (xs : List ℕ) (at : ℕ) (s ys : List ℕ) (k : ℕ) → k ≡ length s → at + length s ≤ length xs
-    → ys ≡ overwritten s (take k (drop at xs)) → Puts xs at s (at + length s) (take at xs ++ (ys ++ drop k (drop at xs)))
+-- the part of k bytes at `at` comes back as s
+pub puts_some : (xs : List ℕ) (at : ℕ) (s ys : List ℕ) (k r : ℕ) → k ≡ length s → r ≡ at + length s → at + length s ≤ length xs
+    → ys ≡ s → Puts xs at s r (take at xs ++ (ys ++ drop k (drop at xs)))
 unfolding laid
-puts_some xs at s ys k e h w =
+puts_some xs at s ys k r e er h w =
     let some = le-leb (at + length s) (length xs) h in
-    let room : length (drop at xs) ≡ length xs - at = length-drop at xs in
-    let size : length s ≡ length (take k (drop at xs)) = sym (length-take-le k (drop at xs) (omega arith) ∙ e) in
-    let whole : ys ≡ s = w ∙ overwritten_whole s (take k (drop at xs)) size in
     let rest : drop k (drop at xs) ≡ drop (at + length s) xs = ap (λ (n : ℕ). drop n (drop at xs)) e ∙ drop-drop (length s) at xs in
     record {
-      end = rw some;
-      bytes = ap₂ (λ (u v : List ℕ). take at xs ++ (u ++ v)) whole rest
+      end = rw some er;
+      bytes = ap₂ (λ (u v : List ℕ). take at xs ++ (u ++ v)) w rest
           ∙ sym (append_assoc (take at xs) s (drop (at + length s) xs))
           ∙ ap (λ (b : Bool). cond b (laid xs at s) xs) (sym some);
     }

@@ -4,53 +4,33 @@ use mathlib.Core.Path.{◌≡◌, refl, sym, ap, ap₂, ◌∙◌, subst}
 use mathlib.Core.Bool.{true, false}
 use mathlib.Core.List.{List, ◌++◌, append_assoc}
 use Prim.Native.Nat.{ℕ, ◌+◌, ◌<◌, ◌≤◌}
-use native.Mathlib.Nat.{le_of_eq, zero-add}
+use native.Mathlib.Nat.{zero-add}
 use native.Mathlib.Omega.{arith}
 use borrow.Author.Tests.{lt-ltb, le-ltb, ltb-false}
 use lib.Dec.{ltb}
 use lib.ListN.{length, take, drop, length-append, length-take, length-drop}
 use lib.Seq.{take_at, drop_at}
+use Rattle.std.specs.Prelude.{Result, Err}
 use Rattle.refusals.specs.Cases.{first_of, positive}
 use Rattle.refusals.specs.Answers.{Answer, refused, gives, answer, written_for}
+use Rattle.refusals.specs.Numbers.{answer_of}
+use Rattle.refusals.specs.declared.Refusal.{Refusal}
 use Rattle.refusals.proofs.Cases.{skip, stop, clear, first_pass, first_none, positive_append}
-use Rattle.refusals.proofs.Answers.{answer_gives, answer_number, answer_none, answer_first, refusal_is}
+use Rattle.refusals.proofs.Answers.{answer_gives, answer_none, answer_first, refusal_is}
 use Rattle.circuit.specs.declared.Schedule.{Schedule}
 use Rattle.expansion.specs.KeySchedule.{schedule_of}
 use Rattle.ctr.specs.Counter.{keystream, add_stream}
 use Rattle.ctr.proofs.Streams.{length_stream, stream_part}
-use Rattle.header.specs.Fields.{archive_number, directory_of}
+use Rattle.header.specs.Fields.{archive_number}
 use Rattle.jobnumber.specs.Number.{order_of}
-use Rattle.directory.specs.Entries.{entries}
-use Rattle.directory.specs.Search.{index_of, search_cases, search_of}
-use Rattle.directory.proofs.Entries.{entry_none}
-use Rattle.directory.proofs.Searching.{missing_is}
-use Rattle.bodies.specs.Bodies.{number_cases, lookup_of, body_at}
+use Rattle.bodies.specs.Bodies.{number_cases}
 use Rattle.bodies.proofs.Numbers.{number_positive}
 use Rattle.admission.specs.Check.{check_cases}
 use Rattle.admission.proofs.Checking.{check_positive}
 use Rattle.archive.specs.Find.{find_cases}
 use Rattle.opening.specs.Open.{prefix_of, under_keystream, body_of, plain_of, job_size, range_of, plain_range, room_cases, range_cases}
 use Rattle.opening.specs.Open.{open_cases, open_of, Opens}
-use Rattle.opening.specs.Internal.{OpensBody, OpensJob}
-
--- ---- how many bytes a job has, in any file
-
-module _ (file number : List ℕ) where
-  -- the search comes to no entry
-  pub size_none : (n : ℕ) → refused n ≡ search_of (directory_of file) number → 0 ≡ job_size file number
-  unfolding body_at
-  size_none n e =
-      let d : List ℕ = directory_of file in
-      let p = answer_number (first_of (search_cases d number)) (index_of d number) n (sym e) in
-      let past : entries d ≤ index_of d number = le_of_eq (sym (missing_is d number _ refl p.1).0) in
-      rw (entry_none d (index_of d number) past)
-
-  -- it comes to entry i, whose body is b
-  pub size_found : (i : ℕ) (b : List ℕ) → gives i ≡ search_of (directory_of file) number → b ≡ body_at file i
-      → length b ≡ job_size file number
-  size_found i b e eb =
-      let p = answer_gives (first_of (search_cases (directory_of file) number)) (index_of (directory_of file) number) i (sym e) in
-      ap length (eb ∙ ap (body_at file) (sym p.1))
+use Rattle.opening.specs.Internal.{OpensBody}
 
 -- ---- the range and the buffer
 
@@ -105,19 +85,21 @@ module _ (s : Schedule) (prefix body : List ℕ) (first count : ℕ) (before : L
         let short = range_short (length body) first count (length before) e l in
         record { answered = refusal_is 20 _ _ (sym short) (λ q. omega arith); bytes = refl }
 
-    pub body_open : (sealed after : List ℕ) → sealed ≡ range_of first count body → count ≤ length before
-        → after ≡ add_stream (keystream s prefix) first sealed ++ drop (length sealed) before
-        → OpensBody s prefix body first count before (gives count) after
+    -- the code says the range's length as m and n
+    pub body_open : (run : List ℕ) (m n : ℕ) → count ≤ length before → m ≡ count → n ≡ count
+        → run ≡ add_stream (keystream s prefix) first (take m (drop first body))
+        → OpensBody s prefix body first count before (gives count) (run ++ drop n before)
     unfolding written_for
-    body_open sealed after es l w =
+    body_open run m n l em en er =
         let within : first + count ≤ length body = ltb-false _ _ e in
-        let size : length sealed ≡ count = ap length es ∙ length_range first count body within in
         record {
           answered = sym (answer_none _ _ (range_good (length body) first count (length before) within l));
-          bytes = w ∙ ap₂ (λ (x : List ℕ) (n : ℕ). add_stream (keystream s prefix) first x ++ drop n before) es size;
+          bytes =
+              ap₂ (λ (x : List ℕ) (k : ℕ). x ++ drop k before) (er
+              ∙ ap (λ (k : ℕ). add_stream (keystream s prefix) first (take k (drop first body))) em) en;
         }
 
--- ---- opening a range of a job of an accepted file
+-- ---- after the check
 
 -- a range of a job's plain bytes is that range of its body under the keystream
 pub range_plain : (s : Schedule) (archive number bytes : List ℕ) (first count : ℕ)
@@ -127,35 +109,6 @@ unfolding under_keystream
 range_plain s archive number bytes first count =
     let k : ℕ → ℕ = keystream s (prefix_of archive number) in
     stream_part k 0 first count bytes ∙ ap (λ (i : ℕ). add_stream k i (range_of first count bytes)) (zero-add first)
-
-module _ (s : Schedule) (file number : List ℕ) (first count : ℕ) (before : List ℕ) where
-  -- the job is not found
-  pub job_refused : (n : ℕ) → refused n ≡ lookup_of file number → OpensJob s file number first count before (refused n) before
-  unfolding written_for
-  job_refused n e =
-      let p = answer_number _ _ n (sym e) in
-      record { answered = ap refused (sym p.0) ∙ sym (answer_first (number_cases file number) _ _ p.1); bytes = refl }
-
-  -- the job is found at i, and a range of its body is opened
-  pub job_found : (i : ℕ) (prefix body after : List ℕ) (a : Answer) → gives i ≡ lookup_of file number → body ≡ body_at file i
-      → prefix ≡ prefix_of (archive_number file) number → OpensBody s prefix body first count before a after
-      → OpensJob s file number first count before a after
-  job_found i prefix body after a e eb ep o =
-      let p = answer_gives (first_of (number_cases file number)) (index_of (directory_of file) number) i (sym e) in
-      let same : body ≡ body_of file number = eb ∙ ap (body_at file) (sym p.1) in
-      let rest = range_cases (job_size file number) first count (length before) in
-      let asked = first_pass (number_cases file number) rest (number_positive file number) p.0 in
-      record {
-        answered = o.answered
-            ∙ ap (λ (l : List ℕ). answer (first_of (range_cases (length l) first count (length before))) count) same
-            ∙ ap (λ (n : ℕ). answer n count) (sym asked);
-        bytes = o.bytes
-            ∙ ap₂ (λ (q l : List ℕ). written_for a (add_stream (keystream s q) first (range_of first count l)) before) ep same
-            ∙ ap (λ (l : List ℕ). written_for a l before)
-            (sym (range_plain s (archive_number file) number (body_of file number) first count));
-      }
-
--- ---- after the check
 
 module _ (key tag_key file number : List ℕ) (first count : ℕ) (before : List ℕ) where
   -- the archive is refused
@@ -169,18 +122,63 @@ module _ (key tag_key file number : List ℕ) (first count : ℕ) (before : List
       record { answered = ap refused e ∙ sym (ap (λ (m : ℕ). answer m count) all ∙ stopped); bytes = refl }
 
   -- the archive is accepted: the cases of the number, of the range and of the buffer are left
-  pub opens_asked : (s : Schedule) (a : Answer) (after : List ℕ) → first_of (check_cases key tag_key file) ≡ 0 → s ≡ schedule_of key
-      → OpensJob s file number first count before a after → Opens key tag_key file number first count before a after
-  unfolding open_cases find_cases
-  opens_asked s a after e es o =
-      let rest = range_cases (job_size file number) first count (length before) in
-      let all = ap first_of (append_assoc (check_cases key tag_key file) (number_cases file number) rest) in
-      let pass = first_pass (check_cases key tag_key file) (number_cases file number
-      ++ rest) (check_positive order_of key tag_key file) e in
-      record {
-        answered = o.answered ∙ ap (λ (n : ℕ). answer n count) (sym (all ∙ pass));
-        bytes = o.bytes ∙ ap (λ (t : Schedule). written_for a (plain_range t file number first count) before) es;
-      }
+  module _ (z : 0 ≡ first_of (check_cases key tag_key file)) where
+    asked : first_of (open_cases key tag_key file number first count (length before))
+        ≡ first_of (number_cases file number ++ range_cases (job_size file number) first count (length before))
+    unfolding open_cases find_cases
+    asked =
+        let rest = range_cases (job_size file number) first count (length before) in
+        ap first_of (append_assoc (check_cases key tag_key file) (number_cases file number) rest)
+        ∙ first_pass (check_cases key tag_key file) _ (check_positive order_of key tag_key file) (sym z)
+
+    -- the job is not found
+    pub opens_unknown : (n : ℕ) → n ≡ first_of (number_cases file number) → (n ≡ 0 → ⊥)
+        → Opens key tag_key file number first count before (refused n) before
+    unfolding written_for
+    opens_unknown n e h =
+        record {
+          answered =
+              ap refused e
+              ∙ sym (ap (λ (m : ℕ). answer m count) asked ∙ answer_first (number_cases file number) _ count (λ y. h (e ∙ y)));
+          bytes = refl;
+        }
+
+    -- the job is found, and a range of its body is opened
+    pub opens_found : (s : Schedule) (prefix body : List ℕ) (a : Answer) (after : List ℕ) → 0 ≡ first_of (number_cases file number)
+        → s ≡ schedule_of key → prefix ≡ prefix_of (archive_number file) number → body ≡ body_of file number
+        → OpensBody s prefix body first count before a after → Opens key tag_key file number first count before a after
+    opens_found s prefix body a after y es ep eb o =
+        let rest = range_cases (job_size file number) first count (length before) in
+        let pass = first_pass (number_cases file number) rest (number_positive file number) (sym y) in
+        record {
+          answered =
+              o.answered
+              ∙ ap (λ (l : List ℕ). answer (first_of (range_cases (length l) first count (length before))) count) eb
+              ∙ ap (λ (n : ℕ). answer n count) (sym (asked ∙ pass));
+          bytes =
+              o.bytes
+              ∙ ap (λ (t : Schedule). written_for a (add_stream (keystream t prefix) first (range_of first count body)) before) es
+              ∙ ap₂ (λ (q l : List ℕ). written_for a (add_stream (keystream (schedule_of key) q) first (range_of first count l)) before) ep
+              eb
+              ∙ ap (λ (l : List ℕ). written_for a l before)
+              (sym (range_plain (schedule_of key) (archive_number file) number (body_of file number) first count));
+        }
+
+-- all of the body's bytes are all of the job's
+pub opens_whole : (key tag_key file number before : List ℕ) → 0 ≡ first_of (check_cases key tag_key file) → (s : Schedule)
+    (prefix body : List ℕ) (a : Answer) (after : List ℕ) → 0 ≡ first_of (number_cases file number) → s ≡ schedule_of key
+    → prefix ≡ prefix_of (archive_number file) number → body ≡ body_of file number → OpensBody s prefix body 0 (length body) before a after
+    → Opens key tag_key file number 0 (job_size file number) before a after
+opens_whole key tag_key file number before z s prefix body a after y es ep eb o =
+    opens_found key tag_key file number 0 (job_size file number) before z s prefix body a after y es ep eb
+    (subst (λ (n : ℕ). OpensBody s prefix body 0 n before a after) (ap length eb) o)
+
+-- a refusal that is passed on
+pub as_told : (key tag_key file number : List ℕ) (first count : ℕ) (before after : List ℕ) (r : Result ℕ Refusal) (e : Refusal)
+    → r ≡ Err e → Opens key tag_key file number first count before (answer_of (Err e)) after
+    → Opens key tag_key file number first count before (answer_of r) after
+as_told key tag_key file number first count before after r e told o =
+    subst (λ (x : Result ℕ Refusal). Opens key tag_key file number first count before (answer_of x) after) (sym told) o
 
 -- ---- what an opening that gave bytes tells
 

@@ -6,7 +6,7 @@
 -- Assumes nothing.
 use Rattle.std.specs.Prelude.{◌≡◌, List, [], ◌∷◌, ◌++◌, ℕ, ◌+◌, ltb, length, take, drop}
 use Rattle.refusals.specs.Cases.{Case, when, first_of}
-use Rattle.refusals.specs.Answers.{Answer, refused, gives, answer, written_for}
+use Rattle.refusals.specs.Answers.{Answer, answer, written_for}
 use Rattle.circuit.specs.declared.Schedule.{Schedule}
 use Rattle.expansion.specs.KeySchedule.{schedule_of}
 use Rattle.ctr.specs.Counter.{keystream, add_stream}
@@ -14,8 +14,6 @@ use Rattle.header.specs.Fields.{archive_number, directory_of}
 use Rattle.directory.specs.Search.{index_of}
 use Rattle.bodies.specs.Bodies.{body_at}
 use Rattle.archive.specs.Find.{find_cases}
-use Rattle.opening.specs.declared.Opened.{Opened}
-use Rattle.opening.specs.declared.Opened.TheVariants.{Bytes, Refused}
 
 -- the first twelve bytes of a job's counter blocks, from the archive number and the job number
 unfoldable pub prefix_of : List ℕ → List ℕ → List ℕ
@@ -60,11 +58,6 @@ open_cases key tag_key file number first count room =
 -- what opening answers: how many plain bytes the range has
 abbrev pub open_of : List ℕ → List ℕ → List ℕ → List ℕ → ℕ → ℕ → ℕ → Answer
 open_of key tag_key file number first count room = answer (first_of (open_cases key tag_key file number first count room)) count
-
--- the answer that a value of `Opened` is
-abbrev pub opened_as : Opened → Answer
-opened_as (Bytes n) = gives n
-opened_as (Refused n) = refused n
 
 -- the contract of opening a range: a is its answer, and `after` what stands in the buffer that held `before`. A whole job is the range of
 -- `job_size` bytes from byte 0 on; specs/Ranges of `opened_jobs` has what that comes to

@@ -2,106 +2,76 @@
 // once; then only the blocks of the keystream are made that the range touches.
 #![tactic(auto)]
 
-ghost use Rattle.std.specs.Prelude.{◌≡◌, true, ◌++◌, ◌+◌, ◌≤◌, ltb, length, drop};
-ghost use Rattle.refusals.specs.Shared.{good_rounds};
-ghost use Rattle.ctr.specs.Counter.{keystream, add_stream};
-ghost use Rattle.opening.specs.Open.{prefix_of, job_size, opened_as, Opens};
-ghost use Rattle.opening.specs.Internal.{OpensBody, OpensJob};
+ghost use Rattle.std.specs.Prelude.{◌≡◌, ◌+◌, ◌≤◌, ltb, length};
+ghost use Rattle.refusals.specs.Numbers.{answer_of};
+ghost use Rattle.opening.specs.Open.{prefix_of, job_size, Opens};
+ghost use Rattle.opening.specs.Internal.{OpensBody, FindsJob};
 
-use circuit::Schedule;
-use directory::Found;
-use octets::part;
+use circuit::GoodSchedule;
+use refusals::Refusal;
 
-// Opening's answer: how many plain bytes were written, or a refusal's number.
-#[derive(Clone, Copy)]
-pub enum Opened {
-    Bytes(usize),
-    Refused(u32),
-}
-
-// The first twelve bytes of a job's counter blocks: archive number and digits.
-fn prefix(archive: &[u8], number: &[u8]) -> [u8; 12]
-    requires { (length archive.now ≡ 4) × (length number.now ≡ 8) }
-    ensures { result ≡ prefix_of archive.now number.now }
+// The first twelve bytes of a job's counter blocks.
+pub fn prefix(archive: [u8; 4], number: [u8; 8]) -> [u8; 12]
+    ensures { result ≡ prefix_of archive number }
 {
     let mut bytes = [0u8; 12];
-    let next = octets::put(&mut bytes, 0, archive);
-    octets::put(&mut bytes, next, number);
+    bytes[0..4].copy_from_slice(&archive);
+    bytes[4..12].copy_from_slice(&number);
     bytes
 }
 
-// Writes the plain bytes of a part of a body, which begins at byte `first` of it, to the front of a buffer that has room for them.
-fn decrypt(schedule: Schedule, prefix: [u8; 12], first: usize, sealed: &[u8], out: &mut [u8])
-    requires { (good_rounds schedule.rounds ≡ true) × (length sealed.now ≤ length out.old) }
-    ensures { out.new
-        ≡ add_stream (keystream schedule prefix) first sealed.now ++ drop (length sealed.now) out.old }
-{
-    octets::copy(sealed, out);
-    let n = sealed.len();
-    ctr::apply(schedule, prefix, first, &mut out[0..n]);
-}
-
-// Case 26, for a job of `size` bytes. The sum of `first` and `count` need not fit a usize, so it is not made.
+// Case 26, for a job of `size` bytes. A sum that does not fit a usize passes the end of every job.
 fn passes_end(size: usize, first: usize, count: usize) -> bool
     ensures { result ≡ ltb size (first + count) }
 {
-    if size < first {
-        return true;
+    match first.checked_add(count) {
+        Some(end) => size < end,
+        None => true,
     }
-    size - first < count
 }
 
-// Opens a range of a body.
-fn open_body(
-    schedule: Schedule,
+// A job's sealed body, and what its keystream is made from.
+#[derive(Clone, Copy)]
+struct Job<'a> {
+    schedule: GoodSchedule,
     prefix: [u8; 12],
-    body: &[u8],
-    first: usize,
-    count: usize,
-    out: &mut [u8],
-) -> Opened
-    requires { good_rounds schedule.rounds ≡ true }
-    ensures { OpensBody schedule prefix body.now first count out.old (opened_as result) out.new }
-{
-    let size = body.len();
-    if passes_end(size, first, count) {
-        return Opened::Refused(26);
-    }
-    if out.len() < count {
-        return Opened::Refused(20);
-    }
-    decrypt(schedule, prefix, first, part(body, first, count), out);
-    Opened::Bytes(count)
+    body: &'a [u8],
 }
 
-// Opens a range of a job of a file that passed its checks.
-fn open_job(
-    schedule: Schedule,
-    file: &[u8],
-    number: &[u8],
-    first: usize,
-    count: usize,
-    out: &mut [u8],
-) -> Opened
-    requires { (good_rounds schedule.rounds ≡ true) × (20 ≤ length file.now) }
-    ensures { OpensJob schedule file.now number.now first count out.old (opened_as result)
-        out.new }
-{
-    let f = bodies::lookup(file, number);
-    match f {
-        Found::Refused(n) => Opened::Refused(n),
-        Found::At(i) => open_body(
-            schedule,
-            prefix(header::archive_number(file), number),
-            bodies::body_at(file, i),
-            first,
-            count,
-            out,
-        ),
+impl<'a> Job<'a> {
+    // Writes a range of the plain bytes to the front of a buffer.
+    fn open(self, first: usize, count: usize, out: &mut [u8]) -> Result<usize, Refusal>
+        ensures { OpensBody self.entry.schedule.schedule self.entry.prefix self.entry.body.now first count out.old (answer_of result)
+            out.new }
+    {
+        if passes_end(self.body.len(), first, count) {
+            return Err(Refusal::RangeEnd);
+        }
+        if out.len() < count {
+            return Err(Refusal::BufferTooShort);
+        }
+        let plain = &mut out[0..count];
+        plain.copy_from_slice(&self.body[first..first + count]);
+        ctr::apply_good(self.schedule, self.prefix, first, plain);
+        Ok(count)
     }
 }
 
-// Opens a range of a job: `count` plain bytes from byte `first` on, at the front of a buffer.
+// The job of a number, in a file that passed its checks.
+fn find_job<'a>(schedule: GoodSchedule, file: &'a [u8], number: &[u8]) -> Result<Job<'a>, Refusal>
+    requires { 20 ≤ length file.now }
+    ensures { FindsJob schedule.schedule file.now number.now result }
+{
+    let i = bodies::lookup(file, number)?;
+    let archive = header::archive_number(file).try_into().unwrap();
+    Ok(Job {
+        schedule,
+        prefix: prefix(archive, number.try_into().unwrap()),
+        body: bodies::body_at(file, i),
+    })
+}
+
+// Opens a range of a job: `count` plain bytes from byte `first` on, at the front of a buffer. Answers how many were written.
 pub fn open_range(
     key: &[u8],
     tag_key: &[u8],
@@ -110,39 +80,27 @@ pub fn open_range(
     first: usize,
     count: usize,
     out: &mut [u8],
-) -> Opened
+) -> Result<usize, Refusal>
     ensures { Opens key.now tag_key.now file.now number.now first count
-        out.old (opened_as result) out.new }
+        out.old (answer_of result) out.new }
 {
-    let a = admission::admit(key, tag_key, file);
-    let n = a.number;
-    if n != 0 {
-        return Opened::Refused(n);
-    }
-    open_job(a.schedule, file, number, first, count, out)
-}
-
-// How many bytes the job of a number has; 0 where the search comes to no entry.
-fn job_size(file: &[u8], number: &[u8]) -> usize
-    ensures { result ≡ job_size file.now number.now }
-{
-    let f = directory::search(header::directory(file), number);
-    match f {
-        Found::Refused(_) => 0,
-        Found::At(i) => bodies::body_at(file, i).len(),
-    }
+    let admitted = admission::admit(key, tag_key, file)?;
+    let job = find_job(admitted.schedule, file, number)?;
+    job.open(first, count, out)
 }
 
 // Opens a whole job: the range of all its bytes.
-pub fn open(key: &[u8], tag_key: &[u8], file: &[u8], number: &[u8], out: &mut [u8]) -> Opened
+pub fn open(
+    key: &[u8],
+    tag_key: &[u8],
+    file: &[u8],
+    number: &[u8],
+    out: &mut [u8],
+) -> Result<usize, Refusal>
     ensures { Opens key.now tag_key.now file.now number.now
-        0 (job_size file.now number.now) out.old (opened_as result) out.new }
+        0 (job_size file.now number.now) out.old (answer_of result) out.new }
 {
-    let a = admission::admit(key, tag_key, file);
-    let n = a.number;
-    if n != 0 {
-        return Opened::Refused(n);
-    }
-    let size = job_size(file, number);
-    open_job(a.schedule, file, number, 0, size, out)
+    let admitted = admission::admit(key, tag_key, file)?;
+    let job = find_job(admitted.schedule, file, number)?;
+    job.open(0, job.body.len(), out)
 }

@@ -5,9 +5,11 @@ ghost use Rattle.std.specs.Prelude.{◌≡◌};
 ghost use Rattle.boxes.specs.Boxes.{box_by};
 ghost use Rattle.expansion.specs.KeySchedule.{words_by, words_of, Prepares};
 
-use expansion::Prepared;
+use circuit::GoodSchedule;
+use refusals::Refusal;
 
 // W0 to W3 from KL, KR and the constants, over any four tables that are lent as boxes.
+#[tactic(auto, unfolding(expansion::specs::KeySchedule::words_by))]
 fn words_by(t: &[[u8; 256]; 4], kl: [u8; 16], kr: [u8; 16], ck: [[u8; 16]; 3]) -> [[u8; 16]; 4]
     ensures { result ≡ words_by (box_by t.now) kl kr ck }
 {
@@ -18,6 +20,7 @@ fn words_by(t: &[[u8; 256]; 4], kl: [u8; 16], kr: [u8; 16], ck: [[u8; 16]; 3]) -
 }
 
 // W0 to W3 of a key. Of a key of another length than 16, 24 or 32 bytes 01 has none; these are the definition's then.
+#[tactic(auto, using(crate::proofs::Making::words_of_lem, blocks::proofs::Blocks::block_part))]
 pub fn words(key: &[u8]) -> [[u8; 16]; 4]
     ensures { result ≡ words_of key.now }
 {
@@ -27,10 +30,10 @@ pub fn words(key: &[u8]) -> [[u8; 16]; 4]
     words_by(&t, kl, kr, expansion::constants(key.len()))
 }
 
-// The schedule of a key.
-pub fn prepare(key: &[u8]) -> Prepared
+// The schedule of a key; refusal 1 where no key has its length.
+#[tactic(auto, unfolding(expansion::specs::KeySchedule::schedule_of))]
+pub fn prepare(key: &[u8]) -> Result<GoodSchedule, Refusal>
     ensures { Prepares key.now result }
 {
-    let n = key.len();
-    expansion::expand(n, words(key))
+    expansion::expand(key.len(), words(key))
 }

@@ -3,12 +3,14 @@
 use mathlib.Core.Path.{◌≡◌, refl, sym, ap, ◌∙◌, subst}
 use mathlib.Core.List.{List}
 use Prim.Native.Nat.{ℕ, zero, suc, ◌*◌, ◌≤◌}
-use native.Mathlib.Omega.{arith}
 use lib.ListN.{length, take}
-use Rattle.refusals.specs.Cases.{first_of}
-use Rattle.refusals.specs.Answers.{gives, unless_refused}
-use Rattle.header.specs.Fields.{directory_of}
-use Rattle.dropping.specs.Drop.{dropped_file, asked_cases}
+use Rattle.arrayvec.specs.ArrayVec.{ArrayVec}
+use Rattle.refusals.specs.Answers.{unless_refused}
+use Rattle.refusals.specs.declared.Refusal.{Refusal}
+use Rattle.refusals.specs.Numbers.{number}
+use Rattle.refusals.proofs.Numbers.{number_some}
+use Rattle.std.specs.Prelude.{Ok, Err}
+use Rattle.dropping.specs.Drop.{dropped_file}
 use Rattle.dropping.specs.Preview.{directory_left, preview_cases, Previews}
 use Rattle.dropping.specs.declared.Previewed.{Previewed}
 use Rattle.dropping.proofs.Cases.{before_room}
@@ -16,10 +18,8 @@ use Rattle.dropped_jobs.proofs.Previews.{new_directory, preview_asked, seen_fron
 use Rattle.dropped_jobs.proofs.Leaves as leaves
 use Rattle.listing.specs.Text.{refused_word, number_line, directory_text}
 use Rattle.listing.specs.Listing.{listing_text, Holds}
-use Rattle.listing.specs.declared.Listing.{Listing}
 use Rattle.listing.proofs.Directories.{directory_lists}
-use Rattle.preview_listing.specs.Text.{preview_number, preview_text, ListsLeft, PreviewLists}
-use Rattle.preview_listing.specs.declared.LeftListing.{LeftListing}
+use Rattle.preview_listing.specs.Text.{preview_number, preview_text, left_text, ListsLeft, PreviewLists}
 
 module _ (key tag_key file list : List ℕ) where
   text_none : preview_number key tag_key file list ≡ 0
@@ -37,23 +37,24 @@ module _ (key tag_key file list : List ℕ) where
       sym
       (ap (λ (m : ℕ). unless_refused m (listing_text key tag_key (dropped_file key tag_key file list)) (number_line refused_word m)) e)
 
-  module _ (held : List ℕ) (p : Previewed) (seen : List ℕ) (ps : Previews key tag_key file list held p seen) where
+  module _ (held seen : List ℕ) where
     -- a refusal in a buffer of 1,024 bytes is not 20
-    pub left_refused : 1024 ≤ length held → (p.number ≡ 0 → ⊥) → (l : Listing) → Holds (number_line refused_word p.number) l
-        → ListsLeft key tag_key file list record { number = p.number; listing = l }
+    pub left_refused : (e : Refusal) → Previews key tag_key file list held (Err e) seen → 1024 ≤ length held → (l : ArrayVec ℕ)
+        → Holds (number_line refused_word (number e)) l
+        → ListsLeft key tag_key file list (Err record { refusal = e; line = l })
     unfolding preview_cases
-    left_refused room some l h =
-        let e = before_room key tag_key file list (length (directory_left file list)) (length held) p.number some
-        ((preview_bounds key tag_key file list held p seen ps).2 room) (sym ps.number) in
-        record { number = sym e; text = subst (λ (t : List ℕ). Holds t l) (text_some p.number some e) h }
+    left_refused e ps room l h =
+        let some = number_some e in
+        let q = before_room key tag_key file list (length (directory_left file list)) (length held) (number e) some
+        ((preview_bounds key tag_key file list held (Err e) seen ps).2 room) (sym ps.number) in
+        record { number = sym q; text = subst (λ (t : List ℕ). Holds t l) (text_some (number e) some q) h }
 
-    pub left_listed : p.number ≡ 0 → (k : ℕ) → k ≡ 16 * p.count → (l : Listing) → Holds (directory_text (take k seen)) l
-        → ListsLeft key tag_key file list record { number = 0; listing = l }
-    left_listed z k is l h =
-        let none = preview_asked key tag_key file list held p seen ps z in
-        let same = ap (λ (m : ℕ). take m seen) is
-        ∙ seen_front key tag_key file list held p seen ps z
-        ∙ sym (new_directory key tag_key file list none) in
+    pub left_listed : (p : Previewed) → Previews key tag_key file list held (Ok p) seen → (l : ArrayVec ℕ)
+        → Holds (directory_text (take (16 * p.count) seen)) l
+        → ListsLeft key tag_key file list (Ok l)
+    left_listed p ps l h =
+        let none = preview_asked key tag_key file list held (Ok p) seen ps refl in
+        let same = seen_front key tag_key file list held (Ok p) seen ps refl ∙ sym (new_directory key tag_key file list none) in
         let text = ap directory_text same
         ∙ directory_lists key tag_key (dropped_file key tag_key file list) _ (leaves.back key tag_key file list none).accepted
         ∙ text_none none in
@@ -64,6 +65,6 @@ preview_lists key tag_key file list before n after r d lists =
     let none = (leaves.given key tag_key file list before n after d).0 in
     let new = (leaves.parts key tag_key file list before n after d).0 in (
       lists.number ∙ none,
-      subst (λ (t : List ℕ). Holds t r.listing)
+      subst (λ (t : List ℕ). Holds t (left_text r))
           (sym (text_none key tag_key file list none) ∙ ap (listing_text key tag_key) (sym new)) lists.text,
     )

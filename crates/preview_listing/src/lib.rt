@@ -4,31 +4,34 @@
 ghost use Rattle.preview_listing.specs.Text.{ListsLeft};
 
 use listing::Listing;
+use refusals::Refusal;
 
-// A refusal's number or 0, and the text: what `jobs` would print of the new archive, or the line of the refusal.
-#[derive(Clone, Copy)]
-pub struct LeftListing {
-    pub number: u32,
-    pub listing: Listing,
+// A refusal, and its line.
+#[derive(Drop)]
+pub struct RefusedListing {
+    pub refusal: Refusal,
+    pub line: Listing,
 }
 
-// Lists the jobs that dropping those of a list would leave.
-pub fn list_left(key: &[u8], tag_key: &[u8], file: &[u8], list: &[u8]) -> LeftListing
+// Lists the jobs that dropping those of a list would leave: what `jobs` would print of the new archive.
+pub fn list_left(
+    key: &[u8],
+    tag_key: &[u8],
+    file: &[u8],
+    list: &[u8],
+) -> Result<Listing, RefusedListing>
     ensures { ListsLeft key.now tag_key.now file.now list.now result }
 {
     // room for 64 entries, and no archive has more
     let mut directory = [0u8; 1024];
-    let seen = dropping::preview(key, tag_key, file, list, &mut directory);
-    let number = seen.number;
-    if number != 0 {
-        return LeftListing {
-            number,
-            listing: listing::refusal(number),
-        };
-    }
-    let end = 16 * seen.count;
-    LeftListing {
-        number: 0,
-        listing: listing::list_directory(&directory[0..end]),
+    match dropping::preview(key, tag_key, file, list, &mut directory) {
+        Ok(seen) => {
+            let end = 16 * seen.count;
+            Ok(listing::list_directory(&directory[..end]))
+        }
+        Err(refusal) => {
+            let line = listing::refusal(u32::from(refusal));
+            Err(RefusedListing { refusal, line })
+        }
     }
 }

@@ -3,15 +3,15 @@
 use mathlib.Core.Path.{◌≡◌, refl, sym, ap, ◌∙◌}
 use mathlib.Core.Bool.{true}
 use mathlib.Core.List.{List, ◌++◌}
-use Prim.Native.Nat.{ℕ, ◌≤◌}
+use Prim.Native.Nat.{ℕ, ◌<◌, ◌≤◌}
 use native.Mathlib.Omega.{arith}
-use borrow.Author.Tests.{ltb-false, le-ltb}
+use borrow.Author.Tests.{ltb-false, lt-ltb, le-ltb}
 use lib.ListN.{length, drop}
 use Rattle.refusals.specs.Cases.{first_of, positive}
 use Rattle.refusals.specs.Answers.{Answer, refused, gives, written_for}
 use Rattle.refusals.specs.Shared.{tag_key_cases}
 use Rattle.refusals.proofs.Answers.{answer_gives}
-use Rattle.refusals.proofs.Cases.{clear, first_pass, first_none, one_passes, positive_append}
+use Rattle.refusals.proofs.Cases.{clear, first_pass, first_none, one_applies, one_passes, positive_append}
 use Rattle.refusals.proofs.Shared.{tag_key_positive}
 use Rattle.header.specs.Fields.{layout_under}
 use Rattle.sheet.specs.Sheet.{key_size_on, lines, sizes_on}
@@ -80,6 +80,10 @@ key_file_positive have size = refl
 pub key_file_good : (have size : ℕ) → first_of (key_file_cases have size) ≡ 0 → size ≤ have
 unfolding key_file_cases
 key_file_good have size e = ltb-false _ _ (clear (key_file_cases have size) (key_file_positive have size) e 0)
+
+pub key_file_1 : (have size : ℕ) → have < size → first_of (key_file_cases have size) ≡ 1
+unfolding key_file_cases
+key_file_1 have size l = one_applies _ 1 (lt-ltb have size l)
 
 pub key_file_none : (have size : ℕ) → size ≤ have → first_of (key_file_cases have size) ≡ 0
 unfolding key_file_cases

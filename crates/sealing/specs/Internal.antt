@@ -1,11 +1,12 @@
 -- Internal: what the inner functions promise each other. No public contract cites it.
 -- Assumes nothing.
-use Rattle.std.specs.Prelude.{◌≡◌, List, ◌++◌, ℕ, ◌+◌, ◌*◌, ◌≤◌, length}
+use Rattle.std.specs.Prelude.{◌≡◌, List, [], ◌++◌, ℕ, ◌+◌, ◌*◌, length, Option, Some, None}
 use Rattle.refusals.specs.Cases.{first_of}
 use Rattle.refusals.specs.Answers.{Answer, answer, written_for}
-use Rattle.refusals.specs.Shared.{tag_key_cases}
 use Rattle.blocks.specs.Blocks.{row}
 use Rattle.circuit.specs.declared.Schedule.{Schedule}
+use Rattle.circuit.specs.declared.GoodSchedule.{GoodSchedule}
+use Rattle.cmac.specs.Tag.{tag_under}
 use Rattle.header.specs.Fields.{layout_under}
 use Rattle.admission.specs.Check.{key_check, tag_bytes}
 use Rattle.codec.specs.Jobs.{entry_of}
@@ -38,32 +39,25 @@ bodies_on s sheet plain = row (body_on s sheet plain) (lines sheet)
 unfoldable pub front_on : ℕ → Schedule → List ℕ → List ℕ → List ℕ
 front_on layout s sheet plain = header_on layout s sheet ++ (directory_on sheet (20 + 16 * lines sheet) ++ bodies_on s sheet plain)
 
--- ---- what is known when writing begins
+-- ---- the tag key
 
--- the sheet has its first five bytes, and at most 64 lines
-pub record Lined (sheet : List ℕ) : Type 0 where
-  pub five : 5 ≤ length sheet
-  pub few : lines sheet ≤ 64
+-- the layout, 2 where there is a schedule of a tag key, and the tag of what was written
+abbrev pub layout_in : Option GoodSchedule → ℕ
+layout_in None = 1
+layout_in (Some t) = 2
 
--- its lengths are those of the plain bytes, which fit into an archive
-pub record Measured (sheet : List ℕ) (given : ℕ) : Type 0 where
-  pub lined : Lined sheet
-  pub exact : sizes_on sheet (lines sheet) ≡ given
-  pub small : given ≤ 65536
+abbrev pub tag_in : Option GoodSchedule → List ℕ → List ℕ
+tag_in None xs = []
+tag_in (Some t) xs = tag_under t.schedule xs
 
--- ---- contracts
+-- the schedule is that of a tag key: none of one of 0 bytes
+pub record TagOf (tag_key : List ℕ) (t : Option GoodSchedule) : Type 0 where
+  pub layout : layout_in t ≡ layout_under tag_key
+  pub bytes : (xs : List ℕ) → tag_in t xs ≡ tag_bytes tag_key xs
 
--- sealing after the keys: the tag is that of a rule
+-- ---- the contract of sealing after the keys: the tag is that of a rule
+
 pub record SealsRest (layout : ℕ) (tag : List ℕ → List ℕ) (s : Schedule) (sheet plain before : List ℕ) (a : Answer) (after : List ℕ)
     : Type 0 where
   pub answered : a ≡ answer (first_of (rest_cases layout sheet (length plain) (length before))) (length_on layout sheet)
   pub bytes : after ≡ written_for a (front_on layout s sheet plain ++ tag (front_on layout s sheet plain)) before
-
--- sealing under a good key
-pub record SealsUnder (s : Schedule) (tag_key sheet plain before : List ℕ) (a : Answer) (after : List ℕ) : Type 0 where
-  pub answered : a
-      ≡ answer (first_of (tag_key_cases (length tag_key) ++ rest_cases (layout_under tag_key) sheet (length plain) (length before)))
-      (length_on (layout_under tag_key) sheet)
-  pub bytes : after
-      ≡ written_for a (front_on (layout_under tag_key) s sheet plain
-      ++ tag_bytes tag_key (front_on (layout_under tag_key) s sheet plain)) before

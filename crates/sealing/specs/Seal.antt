@@ -4,7 +4,7 @@
 -- Assumes nothing.
 use Rattle.std.specs.Prelude.{◌≡◌, List, [], ◌∷◌, ◌++◌, map, ℕ, ◌+◌, ◌*◌, ltb, length, take, drop}
 use Rattle.refusals.specs.Cases.{Case, when, first_of}
-use Rattle.refusals.specs.Answers.{Answer, refused, gives, answer, written_for}
+use Rattle.refusals.specs.Answers.{Answer, answer, written_for}
 use Rattle.refusals.specs.Shared.{tag_key_cases}
 use Rattle.octets.specs.Tables.{values}
 use Rattle.circuit.specs.declared.Schedule.{Schedule}
@@ -15,8 +15,6 @@ use Rattle.codec.specs.Archive.{archive_of}
 use Rattle.opening.specs.Open.{under_keystream}
 use Rattle.sheet.specs.Sheet.{key_size_on, archive_number_on, lines, job_number_on, size_on, sizes_on}
 use Rattle.sheet.specs.Cases.{sheet_cases, lines_cases}
-use Rattle.sealing.specs.declared.Sealed.{Sealed}
-use Rattle.sealing.specs.declared.Sealed.TheVariants.{Bytes, Refused}
 
 -- ---- what is written
 
@@ -83,11 +81,6 @@ seal_cases key_file tag_key sheet given room =
 abbrev pub seal_of : List ℕ → List ℕ → List ℕ → ℕ → ℕ → Answer
 seal_of key_file tag_key sheet given room =
     answer (first_of (seal_cases key_file tag_key sheet given room)) (length_on (layout_under tag_key) sheet)
-
--- the answer that a value of `Sealed` is
-abbrev pub sealed_as : Sealed → Answer
-sealed_as (Bytes n) = gives n
-sealed_as (Refused n) = refused n
 
 -- the contract of sealing: a is its answer, and `after` what stands in the buffer that held `before`
 pub record Seals (key_file tag_key sheet plain before : List ℕ) (a : Answer) (after : List ℕ) : Type 0 where

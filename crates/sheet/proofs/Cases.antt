@@ -1,6 +1,6 @@
 -- The cases of a sheet: that none has the number 0, what a sheet without one is known to have, and that one which has it is without.
 -- Assumes nothing.
-use mathlib.Core.Path.{◌≡◌, refl, ◌∙◌}
+use mathlib.Core.Path.{◌≡◌, refl, sym, ◌∙◌}
 use mathlib.Core.Bool.{Bool, true, false, ◌||◌}
 use mathlib.Core.List.{List, [], ◌∷◌}
 use Prim.Native.Nat.{ℕ, ◌-◌, ◌%◌, ◌<◌, ◌≤◌}
@@ -11,6 +11,10 @@ use Rattle.refusals.specs.Cases.{when, first_of, item_by_item, positive}
 use Rattle.refusals.specs.Shared.{good_key}
 use Rattle.refusals.proofs.Booleans.{both_true}
 use Rattle.refusals.proofs.Cases.{clear, stop, first_pass, first_none, items_positive, items_pass, items_none, positive_append}
+use Rattle.refusals.proofs.Cases.{items_stop}
+use Rattle.refusals.proofs.Numbers.{number_some}
+use Rattle.refusals.specs.Numbers.{number}
+use Rattle.refusals.specs.declared.Refusal.{Refusal}
 use Rattle.jobnumber.specs.Number.{digits, order_of}
 use Rattle.jobnumber.specs.Ascending.{ascends_in}
 use Rattle.sheet.specs.Sheet.{key_size_of, key_size_on, lines, line_at}
@@ -104,12 +108,22 @@ module _ (sheet : List ℕ) where
   unfolding lines_cases
   lines_each l = first_pass (when (ltb 64 (lines sheet)) 9 ∷ []) _ count_positive (count_none l)
 
-  pub lines_none : LinesGood sheet → first_of (lines_cases sheet) ≡ 0
-  lines_none g =
-      lines_each g.few
-      ∙ items_pass (line_cases sheet) (lines sheet) line_positive (line_none g)
-
   -- 65 lines or more: 9, whatever they say
   pub too_many : 64 < lines sheet → first_of (lines_cases sheet) ≡ 9
   unfolding lines_cases
   too_many l = stop (when (ltb 64 (lines sheet)) 9 ∷ item_by_item (line_cases sheet) (lines sheet)) 0 (lt-ltb _ _ l)
+
+  -- no line before i has a case
+  abbrev pub Passed : ℕ → Type 0
+  Passed i = (k : ℕ) → k < i → first_of (line_cases sheet k) ≡ 0
+
+  pub line_refused : (i : ℕ) (e : Refusal) → lines sheet ≤ 64 → Passed i → i < lines sheet → number e ≡ first_of (line_cases sheet i)
+      → number e ≡ first_of (lines_cases sheet)
+  line_refused i e few h l q =
+      q ∙ sym (items_stop (line_cases sheet) (lines sheet) i line_positive l h (λ z. number_some e (q ∙ z))) ∙ sym (lines_each few)
+
+  pub lines_passed : lines sheet ≤ 64 → Passed (lines sheet) → first_of (lines_cases sheet) ≡ 0
+  lines_passed few h = lines_each few ∙ items_pass (line_cases sheet) (lines sheet) line_positive h
+
+  pub lines_none : LinesGood sheet → first_of (lines_cases sheet) ≡ 0
+  lines_none g = lines_passed g.few (line_none g)

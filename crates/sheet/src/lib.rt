@@ -3,6 +3,7 @@
 
 ghost use Rattle.std.specs.Prelude.{◌≡◌, ◌<◌};
 ghost use Rattle.refusals.specs.Cases.{first_of};
+ghost use Rattle.refusals.specs.Numbers.{number_in};
 ghost use Rattle.jobnumber.specs.Number.{order_of};
 ghost use Rattle.jobnumber.specs.Ascending.{ascends_in};
 ghost use Rattle.sheet.specs.Sheet.{key_size_on, NumberPart, lines, line_at, LinePart, size_on, sizes_on};
@@ -10,17 +11,18 @@ ghost use Rattle.sheet.specs.Long.{handed_on};
 ghost use Rattle.sheet.specs.Cases.{is_length, is_key_length, sheet_cases, line_cases, lines_cases};
 
 use jobnumber::{all_digits, order_of};
-use octets::{part, u32_at};
+use octets::{byte_at, part, u32_at};
+use refusals::Refusal;
 
 // How many bytes the key has: as many as the first byte says, 32 where it is 0.
+#[tactic(auto, unfolding(crate::specs::Sheet::key_size_of))]
 pub fn key_size(sheet: &[u8]) -> usize
     ensures { (result ≡ key_size_on sheet.now) × (result < 256) }
 {
-    let n = octets::byte_at(sheet, 0);
-    if n == 0 {
-        return 32;
+    match byte_at(sheet, 0) {
+        0 => 32,
+        n => n,
     }
-    n
 }
 
 // The archive number, a part of the sheet.
@@ -34,20 +36,18 @@ pub fn archive_number(sheet: &[u8]) -> &[u8]
 pub fn lines(sheet: &[u8]) -> usize
     ensures { result ≡ lines sheet.now }
 {
-    if sheet.len() < 5 {
-        return 0;
-    }
-    (sheet.len() - 5) / 12
+    sheet.len().saturating_sub(5) / 12
 }
 
 // Line i, a part of the sheet; empty where there are not so many.
 pub fn line(sheet: &[u8], i: usize) -> &[u8]
     ensures { LinePart sheet.entry i result }
 {
-    if lines(sheet) <= i {
-        return part(sheet, 0, 0);
+    if i < lines(sheet) {
+        part(sheet, 5 + 12 * i, 12)
+    } else {
+        part(sheet, 0, 0)
     }
-    part(sheet, 5 + 12 * i, 12)
 }
 
 // The length of the body on line i.
@@ -58,109 +58,92 @@ pub fn size(sheet: &[u8], i: usize) -> usize
 }
 
 // The lengths on the first n lines in all: of at most 255 lines, so that the sum always fits.
+#[tactic(auto, using(crate::proofs::LineLaws::sizes_next), unfolding(crate::specs::Sheet::sizes_on))]
 pub fn sizes(sheet: &[u8], n: u8) -> usize
     ensures { (result ≡ sizes_on sheet.now n) × (result < 1099511627776) }
 {
-    let count = n as usize;
-    let mut sum: usize = 0;
-    let mut i: usize = 0;
-    while i < count {
+    let mut sum = 0;
+    for i in 0..n as usize {
         sum += size(sheet, i);
-        i += 1;
     }
     sum
 }
 
 // Whether a sheet may have n bytes: 5 plus a multiple of 12.
+#[tactic(auto, unfolding(crate::specs::Cases::is_length))]
 fn is_length(n: usize) -> bool
     ensures { result ≡ is_length n }
 {
-    if n < 5 {
-        return false;
-    }
-    (n - 5) % 12 == 0
+    5 <= n && (n - 5) % 12 == 0
 }
 
-// Whether a sheet's first byte is one of 0, 16, 24 and 32.
+// What a sheet's first byte may be.
+#[tactic(auto, unfolding(refusals::specs::Shared::good_key, crate::specs::Cases::is_key_length))]
 fn is_key_length(n: usize) -> bool
     ensures { result ≡ is_key_length n }
 {
-    if n == 0 {
-        return true;
-    }
-    if n == 16 {
-        return true;
-    }
-    if n == 24 {
-        return true;
-    }
-    n == 32
+    matches!(n, 0 | 16 | 24 | 32)
 }
 
-// The refusal of the sheet's length or of its first byte, or 0.
-pub fn refusal(sheet: &[u8]) -> u32
-    ensures { result ≡ first_of (sheet_cases sheet.now) }
+// Checks the sheet's length and its first byte.
+#[tactic(auto, unfolding(refusals::specs::Cases::first_of, crate::specs::Cases::sheet_cases))]
+pub fn check(sheet: &[u8]) -> Result<(), Refusal>
+    ensures { number_in result ≡ first_of (sheet_cases sheet.now) }
 {
     if !is_length(sheet.len()) {
-        return 21;
+        return Err(Refusal::SheetLength);
     }
-    if !is_key_length(octets::byte_at(sheet, 0)) {
-        return 22;
+    if !is_key_length(byte_at(sheet, 0)) {
+        return Err(Refusal::SheetKeyLength);
     }
-    0
+    Ok(())
 }
 
 // Whether the job number on line i is above that on the line before it.
-fn is_above(sheet: &[u8], i: usize) -> bool
+#[tactic(auto, unfolding(jobnumber::specs::Ascending::ascends_in))]
+fn ascends(sheet: &[u8], i: usize) -> bool
     ensures { result ≡ ascends_in order_of (line_at sheet.now) i }
 {
-    if i == 0 {
-        return true;
-    }
-    let before = order_of(line(sheet, i - 1));
-    let this = order_of(line(sheet, i));
-    before < this
+    i == 0 || order_of(line(sheet, i - 1)) < order_of(line(sheet, i))
 }
 
-// The refusal of line i, or 0.
-fn line_refusal(sheet: &[u8], i: usize) -> u32
-    ensures { result ≡ first_of (line_cases sheet.now i) }
+#[tactic(auto, unfolding(refusals::specs::Cases::first_of, crate::specs::Cases::line_cases))]
+fn check_line(sheet: &[u8], i: usize) -> Result<(), Refusal>
+    ensures { number_in result ≡ first_of (line_cases sheet.now i) }
 {
     if !all_digits(line(sheet, i)) {
-        return 13;
+        return Err(Refusal::NotDigits);
     }
-    if !is_above(sheet, i) {
-        return 14;
+    if !ascends(sheet, i) {
+        return Err(Refusal::NotAscending);
     }
-    0
+    Ok(())
 }
 
-// The refusal of the number of lines, or the first refusal of a line, or 0.
-pub fn lines_refusal(sheet: &[u8]) -> u32
-    ensures { result ≡ first_of (lines_cases sheet.now) }
+// Checks the number of lines, and then line by line.
+#[tactic(auto, using(crate::proofs::Cases::too_many))]
+pub fn check_lines(sheet: &[u8]) -> Result<(), Refusal>
+    ensures { number_in result ≡ first_of (lines_cases sheet.now) }
 {
     let count = lines(sheet);
     if 64 < count {
-        return 9;
+        return Err(Refusal::JobCount);
     }
-    let mut i: usize = 0;
-    while i < count {
-        let n = line_refusal(sheet, i);
-        if n != 0 {
-            return n;
-        }
-        i += 1;
+    for i in 0..count {
+        check_line(sheet, i)?;
     }
-    0
+    Ok(())
 }
 
 // How many bytes of a sheet `seal` hands on, of which it has read the first `length`, 796 at most, and knows how many are beyond, by the
 // remainder modulo 12: all, or of a longer one so many that `seal` answers as on the whole.
+#[tactic(auto, unfolding(crate::specs::Long::handed_on))]
 pub fn handed_on(length: usize, beyond: usize) -> usize
     ensures { result ≡ handed_on length beyond }
 {
     if length < 796 {
-        return length;
+        length
+    } else {
+        785 + (11 + beyond % 12) % 12
     }
-    785 + (11 + beyond % 12) % 12
 }

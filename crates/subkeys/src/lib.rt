@@ -21,15 +21,14 @@ fn shift_left(block: [u8; 16]) -> [u8; 16]
     ensures { result ≡ shifted_left block }
 {
     let mut out = block;
-    let mut i: usize = 0;
-    while i < 16 {
-        out[i] = shifted_byte(block, i);
-        i += 1;
+    for (i, b) in out.iter_mut().enumerate() {
+        *b = shifted_byte(block, i);
     }
     out
 }
 
 // What is added to the shifted block: R where the top bit of the block is 1, and else zero bytes.
+#[tactic(auto, using(crate::proofs::Doubling::reduction_law))]
 fn reduction(block: [u8; 16]) -> [u8; 16]
     ensures { result ≡ cond (ltb (get_or block 0 0) 128) zero_block r128 }
 {
@@ -39,6 +38,7 @@ fn reduction(block: [u8; 16]) -> [u8; 16]
 }
 
 // K1 of L, and K2 of K1.
+#[tactic(auto, using(crate::proofs::Doubling::double_law))]
 fn double(block: [u8; 16]) -> [u8; 16]
     ensures { result ≡ doubled block }
 {
@@ -46,12 +46,10 @@ fn double(block: [u8; 16]) -> [u8; 16]
 }
 
 // The subkey for the last block of a message: K1 where the message filled it, and else K2.
+#[tactic(auto, unfolding(crate::specs::Subkeys::subkey_for))]
 pub fn subkey(l: [u8; 16], complete: bool) -> [u8; 16]
     ensures { result ≡ subkey_for complete l }
 {
     let k1 = double(l);
-    if complete {
-        return k1;
-    }
-    double(k1)
+    if complete { k1 } else { double(k1) }
 }

@@ -3,7 +3,8 @@
 -- that a call makes these once. The standard's own definition is `mac_of` of crate `cmac`, which lays the message out and proves that it
 -- comes to this.
 -- Assumes nothing.
-use Rattle.std.specs.Prelude.{◌≡◌, Bool, List, ℕ, ◌/◌, length}
+use Rattle.std.specs.Prelude.{◌≡◌, Bool, List, ℕ, ◌/◌, length, Result, Ok, Err}
+use Rattle.refusals.specs.declared.Refusal.{Refusal}
 use Rattle.refusals.specs.Answers.{unless_refused}
 use Rattle.blocks.specs.Xor.{xor_block}
 use Rattle.blocks.specs.Chains.{zero_block, chained}
@@ -23,3 +24,8 @@ chain_end s run last complete =
 pub record Chains (s : Schedule) (run last : List ℕ) (complete : Bool) (r : ℕ) (end : List ℕ) : Type 0 where
   pub number : r ≡ run_number s.rounds (length run)
   pub block : end ≡ unless_refused (run_number s.rounds (length run)) (chain_end s run last complete) zero_block
+
+-- the block that a result is, zero bytes where it is a refusal
+abbrev pub block_in : Result (List ℕ) Refusal → List ℕ
+block_in (Ok block) = block
+block_in (Err e) = zero_block

@@ -6,13 +6,17 @@ use native.Mathlib.Omega.{arith}
 use lib.ListN.{replicate}
 use Rattle.octets.specs.Parts.{overwritten}
 use Rattle.octets.proofs.Parts.{overwritten_cut}
-use Rattle.circuit.proofs.Runs.{length_encrypted, one_block}
+use Rattle.circuit.proofs.Runs.{length_encrypted, one_block, number_0}
+use Rattle.cmac.proofs.Generation.{none_refused}
 use Rattle.admission.specs.Check.{key_check}
 use Rattle.admission.proofs.key_check.Goals as goal
+
+pub unwrap-requires : goal.unwrap-requires
+unwrap-requires c = none_refused c.run.result (c.run.ensures.number ∙ number_0 _ 16 c.args.schedule.good refl)
 
 pub returns : goal.returns
 unfolding key_check
 returns c =
     c.copy.ensures
-    ∙ ap (λ (b : List ℕ). overwritten b (replicate 8 0)) (one_block _ _ _ _ c.requires refl c.run.ensures)
-    ∙ overwritten_cut _ (replicate 8 0) (omega (arith, length_encrypted c.args.schedule (replicate 16 255) refl))
+    ∙ ap (λ (b : List ℕ). overwritten b (replicate 8 0)) (one_block _ _ _ _ c.args.schedule.good refl c.run.ensures)
+    ∙ overwritten_cut _ (replicate 8 0) (omega (arith, length_encrypted c.args.schedule.schedule (replicate 16 255) refl))

@@ -1,12 +1,15 @@
 -- `archive::find` meets its contract: a refusal of keys or file stands; an accepted archive leaves the cases of the number.
-use mathlib.Core.Path.{sym, ◌∙◌}
-use Rattle.archive.proofs.Finding.{find_refused, find_asked, finds}
+use mathlib.Core.Path.{◌≡◌}
+use borrow.Author.Rules.{rules}
+use Rattle.std.specs.Prelude.{Err}
+use Rattle.archive.proofs.Finding.{finds_refused, finds_asked}
 use Rattle.archive.proofs.find.Goals as goal
 
-pub returns-then-n-ne0 : goal.returns-then-n-ne0
-returns-then-n-ne0 c = finds _ _ _ _ _ (find_refused _ _ _ _ _ c.admit-n.ensures.number c.if-n-ne0.true)
+pub returns-in_err-admit : goal.returns-in_err-admit
+returns-in_err-admit c =
+    let e = c.in_err-admit in
+    let told : c.from_residual.result ≡ Err e.field-0.0 = search rules in
+    finds_refused _ _ _ _ _ _ told e.ensures.number
 
 pub returns : goal.returns
-returns c =
-    let none = sym c.admit-n.ensures.number ∙ c.if-n-ne0.false in
-    finds _ _ _ _ _ (c.lookup.ensures ∙ find_asked _ _ _ _ none)
+returns c = finds_asked _ _ _ _ _ c.in_ok-admit.ensures.number c.lookup.ensures

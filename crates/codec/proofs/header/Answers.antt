@@ -12,6 +12,7 @@ returns c =
     let check-known = c.well_formed.1.1.1.1.0 in
     let four : length c.args.number ≡ 4 = search rules in
     let eight : length c.args.check ≡ 8 = search rules in
+    let first = rw c.in_two.ensures at c.put-second.ensures in
     header_put c.args.layout c.args.keysize c.args.count c.args.whole c.args.number c.args.check _ four eight
-    c.in_four.ensures c.put-second.ensures c.put-third.ensures c.put-last.ensures
+    c.in_four.ensures first c.put-third.ensures c.put-last.ensures
     c.put.ensures

@@ -7,7 +7,7 @@ use borrow.Author.Rules.{rules}
 use lib.ListN.{length}
 use Rattle.octets.specs.Parts.{laid}
 use Rattle.octets.proofs.Laying.{puts_put}
-use Rattle.ctr.proofs.Keystream.{counter_laid}
+use Rattle.ctr.proofs.Counters.{counter_laid}
 use Rattle.ctr.proofs.counter_block.Goals as goal
 
 pub returns : goal.returns

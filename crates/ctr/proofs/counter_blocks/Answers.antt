@@ -11,26 +11,24 @@ use Rattle.blocks.specs.Blocks.{row}
 use Rattle.blocks.proofs.Rows.{row_turn}
 use Rattle.ctr.specs.Counter.{counter_block}
 use Rattle.ctr.specs.Internal.{counter_blocks}
-use Rattle.ctr.proofs.Keystream.{length_counter}
+use Rattle.ctr.proofs.Counters.{length_counter}
 use Rattle.ctr.proofs.counter_blocks.Goals as goal
 
 pub loop-i-init : goal.loop-i-init
 unfolding row
-loop-i-init c = (search rules, refl, refl)
+loop-i-init c = refl
 
 pub loop-i-preserved : goal.loop-i-preserved
 loop-i-preserved c =
     let l = c.loop-i in
     let a = c.args in
     let pre = c.requires in
-    let more = c.loop-i-test.true in
     let prefix : List ℕ = a.prefix in
     let twelve : length prefix ≡ 12 = search rules in
     let rule : ℕ → List ℕ = λ (i : ℕ). counter_block prefix (a.block + i) in
     let i : ℕ = l.i in
     let run : List ℕ = l.run in
     let ys : List ℕ = c.store.new.part in
-    let same = l.invariant.1 in
     let k : ℕ = 16 * i + 16 - 16 * i in
     let size : length (take k (drop (16 * i) run)) ≡ 16 = simp (length-take, length-drop) (omega arith) in
     let made = c.counter_block in
@@ -44,12 +42,9 @@ loop-i-preserved c =
     let next : 16 * i + 16 ≡ 16 * (i + 1) = omega arith in
     let rest : drop 16 left ≡ drop (16 * (i + 1)) a.run.now =
     drop-drop 16 (16 * i) a.run.now ∙ ap (λ (n : ℕ). drop n a.run.now) next
-    in (
-      omega arith,
-      c.run-1.given.1 ∙ same,
-      row_turn rule i k run ys left (omega arith) (λ j h. length_counter prefix twelve (a.block + j)) l.invariant.2 e
-          ∙ ap (λ (z : List ℕ). row rule (i + 1) ++ z) rest,
-    )
+    in
+    row_turn rule i k run ys left (omega arith) (λ j h. length_counter prefix twelve (a.block + j)) l.invariant e
+    ∙ ap (λ (z : List ℕ). row rule (i + 1) ++ z) rest
 
 pub returns : goal.returns
 returns c =
@@ -58,7 +53,7 @@ returns c =
     let pre = c.requires in
     let end : l.i ≡ length a.run.now / 16 = omega arith in
     let all : length a.run.now ≤ 16 * l.i = omega arith in
-    l.invariant.2
+    l.invariant
     ∙ ap (λ (z : List ℕ). counter_blocks a.prefix a.block l.i ++ z) (drop_of_length-le a.run.now all)
     ∙ append-nil (counter_blocks a.prefix a.block l.i)
     ∙ ap (counter_blocks a.prefix a.block) end

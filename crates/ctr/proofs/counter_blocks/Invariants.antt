@@ -1,14 +1,10 @@
 -- `ctr::counter_blocks` meets its contract: after i turns the first i blocks are the counter blocks; a turn writes one more.
 use mathlib.Core.Path.{◌≡◌}
 use mathlib.Core.List.{◌++◌}
-use Prim.Native.Nat.{◌≤◌, ◌-◌, ◌*◌}
-use lib.ListN.{length, drop}
+use Prim.Native.Nat.{◌*◌}
+use lib.ListN.{drop}
 use Rattle.ctr.specs.Internal.{counter_blocks}
 use Rattle.ctr.proofs.counter_blocks.Given as goal
 
 abbrev pub invariant-loop-i : goal.invariant-loop-i
-invariant-loop-i l =
-    (l.i ≤ l.n) × (length l.run ≡ length l.initial.run) × (l.run ≡ counter_blocks l.prefix l.block l.i ++ drop (16 * l.i) l.initial.run)
-
-abbrev pub decreases-loop-i : goal.decreases-loop-i
-decreases-loop-i l = l.n - l.i
+invariant-loop-i l = l.run ≡ counter_blocks l.prefix l.block l.i ++ drop (16 * l.i) l.initial.run

@@ -1,31 +1,18 @@
--- `decimal::read_digits` meets its contract: after k turns the value is that of the first k digits. A digit with which it does not fit is
--- found before it is added.
-use mathlib.Core.Path.{refl}
-use mathlib.Core.List.{List}
-use Prim.Native.Nat.{ℕ}
+-- `decimal::read_digits` meets its contract: after k turns the value is that of the first k digits. A digit that does not fit ends it.
 use native.Mathlib.Omega.{arith}
-use Rattle.decimal.proofs.Reading.{value_next, digits_over, digits_end}
+use Rattle.decimal.proofs.Reading.{digits_over, digits_end}
 use Rattle.decimal.proofs.read_digits.Goals as goal
 
-pub loop-k-init : goal.loop-k-init
-loop-k-init c = (omega arith, omega arith, refl)
+pub returns-in_err-checked_mul : goal.returns-in_err-checked_mul
+returns-in_err-checked_mul c =
+    let over = c.in_err-checked_mul.ensures in
+    digits_over _ c.loop-b.b-index _ _ c.loop-b.invariant.1 c.from_residual.ensures (omega arith) (omega arith)
 
-pub returns-then-digit-value : goal.returns-then-digit-value
-returns-then-digit-value c =
-    let l = c.loop-k in
-    let d = c.digit_at-digit.ensures in
-    let inside = c.loop-k-test.true in
-    digits_over _ _ _ _ l.invariant.2 d.0 _ inside d.1 c.if-digit-value.true c.none.ensures.0 c.none.ensures.1
-
-pub loop-k-preserved : goal.loop-k-preserved
-loop-k-preserved c =
-    let l = c.loop-k in
-    let d = c.digit_at-digit.ensures in
-    let word : List ℕ = c.args.word.now in
-    (omega arith, omega arith, value_next word l.k _ _ l.invariant.2 d.0)
+pub returns-in_err-value : goal.returns-in_err-value
+returns-in_err-value c =
+    let all = c.in_ok-checked_mul.ensures in
+    let over = c.in_err-value.ensures in
+    digits_over _ c.loop-b.b-index _ _ c.loop-b.invariant.1 c.from_residual-in_err-value.ensures (omega arith) (omega arith)
 
 pub returns : goal.returns
-returns c =
-    let l = c.loop-k in
-    let word : List ℕ = c.args.word.now in
-    digits_end word l.k _ _ (omega arith) l.invariant.2 l.invariant.1 refl refl
+returns c = digits_end _ c.loop-b.b-index _ c.loop-b.invariant.1 (omega arith) (omega arith)

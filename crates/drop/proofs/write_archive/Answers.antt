@@ -6,7 +6,7 @@ use Rattle.dropped_jobs.proofs.Leaves.{drops_fits}
 use Rattle.drop.proofs.write_archive.Goals as goal
 
 pub slice_bounds-smaller-end : goal.slice_bounds-smaller-end
-slice_bounds-smaller-end c = drops_fits _ _ _ _ _ _ _ c.in-Bytes.ensures _ refl
+slice_bounds-smaller-end c = drops_fits _ _ _ _ _ _ _ c.in_ok-n.ensures _ refl
 
-pub slice_bounds-write_out-end : goal.slice_bounds-write_out-end
-slice_bounds-write_out-end c = sym (length-take-le _ _ (drops_fits _ _ _ _ _ _ _ c.in-Bytes.ensures _ refl))
+pub slice_bounds-write_all-end : goal.slice_bounds-write_all-end
+slice_bounds-write_all-end c = sym (length-take-le _ _ (drops_fits _ _ _ _ _ _ _ c.in_ok-n.ensures _ refl))

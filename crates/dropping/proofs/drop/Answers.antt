@@ -1,24 +1,17 @@
 -- `dropping::drop` meets its contract: what is asked first, and then the room and the bytes.
-use Rattle.dropping.proofs.Passed.{passed, whole_file, tag_rounds}
+use Rattle.std.proofs.Common.{sym}
+use Rattle.std.proofs.lemmas.Result.{err_from_is_err_and}
 use Rattle.dropping.proofs.Ways.{drop_refused, drop_written}
 use Rattle.dropping.proofs.drop.Goals as goal
 
-pub returns-then-n-ne0 : goal.returns-then-n-ne0
-returns-then-n-ne0 c = drop_refused _ _ _ _ _ _ c.if-n-ne0.true c.ask-asked.ensures.number
-
-pub drop_marked-requires : goal.drop_marked-requires
-drop_marked-requires c =
-    let a = c.args in
-    let learnt = c.ask-asked.ensures in
-    let none = passed learnt c.if-n-ne0.false in (
-      λ two. rw (learnt.scheduled c.if-n-ne0.false) (tag_rounds a.key.now a.tag_key.now a.file.now a.list.now none two),
-      whole_file a.key.now a.tag_key.now a.file.now a.list.now none,
-    )
+pub returns-in_err-left : goal.returns-in_err-left
+returns-in_err-left c =
+    let p = err_from_is_err_and c.from_residual.result c.from_residual.ensures.1 in
+    rw (p.1, p.2) (drop_refused _ _ _ _ _ c.in_err-left.field-0.0 c.in_err-left.ensures.number)
 
 pub returns : goal.returns
 returns c =
     let a = c.args in
-    let learnt = c.ask-asked.ensures in
-    let zero = c.if-n-ne0.false in
-    drop_written a.key.now a.tag_key.now a.file.now a.list.now (passed learnt zero) _ (learnt.left zero)
-    a.out.now _ _ _ (learnt.scheduled zero) c.drop_marked.ensures
+    let known = c.in_ok-left.ensures in
+    drop_written a.key.now a.tag_key.now a.file.now a.list.now (sym known.number) _ known.left.1 a.out.now _ _ _ known.left.2
+    (rw known.left.0 at c.write.ensures)

@@ -1,48 +1,42 @@
--- `expansion::expand` meets its contract: no rounds are the case of a bad key, some that of a good one.
-use mathlib.Core.Path.{sym, ap, ap₂, ◌∙◌}
-use mathlib.Core.List.{List, []}
-use Prim.Native.Nat.{ℕ, ◌+◌}
-use native.Mathlib.Omega.{arith}
-use lib.ListN.{get_or}
-use Rattle.expansion.specs.Outcomes.{number}
-use Rattle.expansion.specs.KeySchedule.{key_bytes}
-use Rattle.expansion.proofs.KeyLengths.{GoodKey, BadKey, rounds_some, rounds_none, schedule_good, schedule_bad, same_schedule}
+-- `expansion::expand` meets its contract: the number tells the case of a bad key or of a good one.
+use Rattle.std.proofs.Common.{◌≡◌, List, ℕ, ◌+◌, ◌≤◌, [], get_or, sym, ap₂, ◌∙◌, arith}
+use Rattle.refusals.specs.Cases.{first_of}
+use Rattle.refusals.specs.Shared.{key_cases}
+use Rattle.expansion.specs.KeySchedule.{key_bytes, rounds_for}
+use Rattle.expansion.proofs.KeyLengths.{number_good, schedule_good, same_schedule}
 use Rattle.expansion.proofs.expand.Goals as goal
 
-pub returns-then-rounds-eq0 : goal.returns-then-rounds-eq0
-returns-then-rounds-eq0 c =
-    let a = c.args in
-    let b : BadKey a.n = rounds_none a.n (sym c.rounds_for-rounds.ensures ∙ c.if-rounds-eq0.true) in
-    let e = c.refused.ensures in
-    record {
-      number = ap number e.0 ∙ sym b.number;
-      schedule = same_schedule _ _ e.1 e.2 ∙ sym (schedule_bad a.n a.words b);
-    }
+most : (n rounds : ℕ) → 0 ≡ first_of (key_cases n) → rounds ≡ rounds_for n → rounds ≤ 16
+most n rounds told e = rw e (number_good n (sym told)).most
 
 pub overflow_add-rounds : goal.overflow_add-rounds
 overflow_add-rounds c =
-    let most = (rounds_some _ (λ e. c.if-rounds-eq0.false (c.rounds_for-rounds.ensures ∙ e))).most in
-    let e = c.rounds_for-rounds.ensures in
+    let h = most _ _ c.in_ok-rounds.ensures.number c.in_ok-rounds.ensures.rounds in
     omega arith
 
-pub key_bytes-requires : goal.key_bytes-requires
-key_bytes-requires c =
-    let most = (rounds_some _ (λ e. c.if-rounds-eq0.false (c.rounds_for-rounds.ensures ∙ e))).most in
-    let e = c.rounds_for-rounds.ensures in
+pub key_bytes-keys-requires-clause-few : goal.key_bytes-keys-requires-clause-few
+key_bytes-keys-requires-clause-few c =
+    let h = most _ _ c.in_ok-rounds.ensures.number c.in_ok-rounds.ensures.rounds in
     omega arith
+
+pub key_bytes-keys-requires-clause-callable : goal.key_bytes-keys-requires-clause-callable
+key_bytes-keys-requires-clause-callable c =
+    let h = most _ _ c.in_ok-rounds.ensures.number c.in_ok-rounds.ensures.rounds in
+    λ i l. omega arith
+
+pub invariant_of-result : goal.invariant_of-result
+invariant_of-result c =
+    record { good = rw c.in_ok-rounds.ensures.rounds (number_good c.args.n (sym c.in_ok-rounds.ensures.number)).rounds }
 
 pub returns : goal.returns
 returns c =
-    let a = c.args in
-    let g : GoodKey a.n = rounds_some _ (λ e. c.if-rounds-eq0.false (c.rounds_for-rounds.ensures ∙ e)) in
-    let e = c.ready.ensures in
+    let n : ℕ = c.args.n in
+    let told = c.in_ok-rounds.ensures in
     record {
-      number = e.0 ∙ sym g.number;
+      number = told.number;
       schedule =
-          same_schedule _ _ (e.1 ∙ c.rounds_for-rounds.ensures)
-          (e.2
-          ∙ c.key_bytes.ensures
-          ∙ ap₂ (λ (ks : List (List ℕ)) (n : ℕ). key_bytes (λ (i : ℕ). get_or ks i []) (n + 1)) c.encryption_keys.ensures
-          c.rounds_for-rounds.ensures)
-          ∙ sym (schedule_good a.n a.words g);
+          same_schedule _ _ told.rounds
+          (c.key_bytes-keys.ensures (λ i. get_or c.encryption_keys-all.result i []) (λ i k h p. p)
+          ∙ ap₂ (λ (ks : List (List ℕ)) (m : ℕ). key_bytes (λ (i : ℕ). get_or ks i []) (m + 1)) c.encryption_keys-all.ensures told.rounds)
+          ∙ sym (schedule_good n c.args.words (number_good n (sym told.number)));
     }

@@ -1,4 +1,4 @@
--- `header::directory` meets its contract: the part from byte 20 on.
+-- `header::directory` meets its contract: the part from byte 20 on. The check finds this too, but takes minutes to refuse its edits.
 use Rattle.header.specs.Fields.{directory_of}
 use Rattle.header.proofs.directory.Goals as goal
 

@@ -1,20 +1,31 @@
--- `opening::open` meets its contract: a refusal of keys or file stands; of an accepted archive the range of all the job's bytes is opened.
-use mathlib.Core.Path.{sym, ◌∙◌}
-use Rattle.admission.proofs.Accepted.{accepted_rounds, accepted_header}
-use Rattle.opening.proofs.Opening.{opens_refused, opens_asked}
+-- `opening::open` meets its contract: a refusal of keys or file stands; else the job is found, and all its bytes are opened.
+use mathlib.Core.Path.{◌≡◌, sym, ◌∙◌}
+use borrow.Author.Rules.{rules}
+use Rattle.std.specs.Prelude.{Err}
+use Rattle.refusals.proofs.Numbers.{number_some}
+use Rattle.admission.proofs.Accepted.{accepted_header}
+use Rattle.opening.proofs.Opening.{as_told, opens_refused, opens_unknown, opens_whole}
 use Rattle.opening.proofs.open.Goals as goal
 
-pub returns-then-n-ne0 : goal.returns-then-n-ne0
-returns-then-n-ne0 c = opens_refused _ _ _ _ _ _ _ _ c.admit-a.ensures.number c.if-n-ne0.true
+pub returns-in_err-admitted : goal.returns-in_err-admitted
+returns-in_err-admitted c =
+    let e = c.in_err-admitted in
+    let told : c.from_residual.result ≡ Err e.field-0.0 = search rules in
+    as_told _ _ _ _ _ _ _ _ _ _ told (opens_refused _ _ _ _ _ _ _ _ e.ensures.number (number_some e.field-0.0))
 
-pub open_job-requires : goal.open_job-requires
-open_job-requires c =
-    let a = c.admit-a.ensures in
-    let none = sym a.number ∙ c.if-n-ne0.false in
-    (rw a.schedule (accepted_rounds _ _ _ _ none), (accepted_header _ _ _ _ none).long)
+pub find_job-requires : goal.find_job-requires
+find_job-requires c = (accepted_header _ _ _ _ (sym c.in_ok-admitted.ensures.number)).long
+
+pub returns-in_err-job : goal.returns-in_err-job
+returns-in_err-job c =
+    let a = c.in_ok-admitted.ensures in
+    let e = c.in_err-job in
+    let told : c.from_residual-in_err-job.result ≡ Err e.field-0.0 = search rules in
+    as_told _ _ _ _ _ _ _ _ _ _ told (opens_unknown _ _ _ _ _ _ _ a.number _ e.ensures.number (number_some e.field-0.0))
 
 pub returns : goal.returns
 returns c =
-    let a = c.admit-a.ensures in
-    let opened = rw c.job_size-size.ensures at c.open_job.ensures in
-    opens_asked _ _ _ _ _ _ _ _ _ _ (sym a.number ∙ c.if-n-ne0.false) a.schedule opened
+    let a = c.in_ok-admitted.ensures in
+    let found = c.in_ok-job.ensures in
+    let job = found.job in
+    opens_whole _ _ _ _ _ a.number _ _ _ _ _ found.number (job.0 ∙ a.handed.0) job.1 job.2 c.open.ensures

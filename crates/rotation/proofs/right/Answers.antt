@@ -1,36 +1,27 @@
--- `rotation::right` meets its contract: the mask 127 takes the amount modulo 128, and from 64 places on the words change places.
-use mathlib.Core.Path.{ap, ap₂, ◌∙◌}
-use Prim.Native.Nat.{ℕ, ◌<◌}
-use native.Mathlib.Omega.{arith}
+-- `rotation::right` meets its contract: std's rotation of the block's number is the one of the definition.
+use mathlib.Core.Path.{◌≡◌, ap, ◌∙◌}
+use mathlib.Core.List.{List}
+use Prim.Native.Nat.{ℕ}
 use borrow.Author.Rules.{rules}
-use lib.Bits.{bit_and, and_mask, mask_lt}
-use Rattle.rotation.specs.Rotation.{as_block, rotate_right}
-use Rattle.rotation.proofs.Rotations.{right_mod, crossed_right}
+use mir.Val.{Fits}
+use mir.Syntax.{w8}
+use lib.ListN.{length, get_or}
+use Rattle.std.specs.Int.{w128, rotate_right as rotated_right}
+use Rattle.octets.specs.Numbers.{Octets}
+use Rattle.rotation.specs.Rotation.{as_number, as_block}
+use Rattle.rotation.proofs.Numbers.{from_bytes, to_bytes, number_lt}
+use Rattle.rotation.proofs.Rotations.{right_law}
 use Rattle.rotation.proofs.right.Goals as goal
-
-pub returns-then-k-lt64 : goal.returns-then-k-lt64
-returns-then-k-lt64 c =
-    let a = c.args in
-    let s = c.split-h in
-    c.join.ensures
-    ∙ ap as_block
-    (c.shifted.ensures
-    ∙ ap₂ rotate_right (and_mask a.amount 7) s.ensures
-    ∙ right_mod a.amount _)
-
-pub shifted-requires-2 : goal.shifted-requires-2
-shifted-requires-2 c = omega (arith, mask_lt c.args.amount 7)
 
 pub returns : goal.returns
 returns c =
-    let a = c.args in
-    let s = c.split-h in
-    let k : ℕ = bit_and a.amount 127 in
-    let l : k < 128 = mask_lt a.amount 7 in
-    let h = s.result in
-    c.join-2.ensures
+    let b : List ℕ = c.args.block in
+    let k : ℕ = c.args.amount in
+    let lb : length b ≡ 16 = search rules in
+    let bytes : Octets b = λ i. let g : Fits w8 (get_or b i 0) = search rules in g.fits in
+    c.to_be_bytes.ensures
+    ∙ to_bytes c.rotate_right.result
     ∙ ap as_block
-    (c.shifted-2.ensures
-    ∙ crossed_right k h.hi h.lo c.if-k-lt64.false l (search rules)
-    ∙ ap₂ rotate_right (and_mask a.amount 7) s.ensures
-    ∙ right_mod a.amount _)
+    (c.rotate_right.ensures
+    ∙ ap (λ (n : ℕ). rotated_right w128 n k) (c.from_be_bytes-number.ensures ∙ from_bytes b lb)
+    ∙ right_law (as_number b) k (number_lt b bytes lb))

@@ -1,22 +1,31 @@
 -- `roundtrip::round_trip` meets its contract: the contracts of the three calls, one after the other.
-use mathlib.Core.Path.{ap, ◌∙◌}
-use mathlib.Core.List.{List}
-use Prim.Native.Nat.{ℕ}
+use Rattle.std.proofs.Common.{List, ℕ, ap, ◌∙◌}
 use Rattle.octets.specs.Parts.{overwritten}
-use Rattle.roundtrip.proofs.Trip.{every_case}
+use Rattle.roundtrip.proofs.Trip.{every_length, not_reversed}
 use Rattle.roundtrip.proofs.round_trip.Goals as goal
 
-pub returns : goal.returns
-returns c =
-    let second = c.run_by-back in
-    let reversed = c.decryption_schedule-p in
-    let first = c.run_by-there in
-    let shown : List ℕ = c.args.middle.now in
-    let both = every_case _ _ _ _ _ _ reversed.result first.ensures reversed.ensures second.ensures in
+pub returns-in-Ok : goal.returns-in-Ok
+returns-in-Ok c =
+    let there = c.run_by-there.ensures in
+    let reversed = c.in-Ok.ensures in
+    let both = every_length _ _ _ _ _ _ _ there reversed c.run_by.ensures in
     record {
-      first = first.ensures.number;
-      reversed = c.number_of-reversed.ensures ∙ reversed.ensures.number;
+      first = there.number;
+      reversed = reversed.number;
       second = both.0;
       bytes = both.1;
-      middle = c.copy.ensures ∙ ap (λ (xs : List ℕ). overwritten xs shown) first.ensures.bytes;
+      middle = c.copy.ensures ∙ ap (λ (xs : List ℕ). overwritten xs c.args.middle.now) there.bytes;
+    }
+
+pub returns-in-Err : goal.returns-in-Err
+returns-in-Err c =
+    let there = c.run_by-there.ensures in
+    let reversed = c.in-Err.ensures in
+    let both = not_reversed _ _ _ _ _ there reversed in
+    record {
+      first = there.number;
+      reversed = reversed.number;
+      second = both.0;
+      bytes = both.1;
+      middle = c.copy.ensures ∙ ap (λ (xs : List ℕ). overwritten xs c.args.middle.now) there.bytes;
     }

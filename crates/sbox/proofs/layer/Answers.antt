@@ -1,5 +1,5 @@
 -- `sbox::layer` meets its contract: after j turns the first j bytes are those of the layer.
-use mathlib.Core.Path.{◌≡◌, refl, ap, sym, ◌∙◌}
+use mathlib.Core.Path.{◌≡◌, ap, sym, ◌∙◌}
 use mathlib.Core.List.{List}
 use Prim.Native.Nat.{ℕ, ◌+◌, ◌%◌, ◌<◌}
 use native.Mathlib.Omega.{arith}
@@ -11,9 +11,6 @@ use Rattle.boxes.specs.Layers.{layer_from}
 use Rattle.boxes.proofs.Layers.{length_layer, layer_at}
 use Rattle.sbox.proofs.layer.Goals as goal
 
-pub loop-j-init : goal.loop-j-init
-loop-j-init c = (search rules, refl)
-
 pub loop-j-preserved : goal.loop-j-preserved
 loop-j-preserved c =
     let a = c.args in
@@ -23,13 +20,9 @@ loop-j-preserved c =
     let t : List ℕ = layer_from f a.from b in
     let hb : length b ≡ 16 = search rules in
     let hj : l.j < length b = omega arith in
-    let e = l.invariant.1 in
-    let same = length_layer f a.from b in (
-      omega arith,
-      fill_turn t b _ l.j _ e same hj
-          (c.substitute.ensures ∙ ap (f ((a.from + l.j) % 4)) (fill_read t b _ l.j e same hj)
-          ∙ sym (layer_at f a.from b l.j hj)),
-    )
+    let same = length_layer f a.from b in
+    fill_turn t b _ l.j _ l.invariant same hj
+    (c.substitute.ensures ∙ ap (f ((a.from + l.j) % 4)) (fill_read t b _ l.j l.invariant same hj) ∙ sym (layer_at f a.from b l.j hj))
 
 pub returns : goal.returns
 returns c =
@@ -37,4 +30,4 @@ returns c =
     let f : ℕ → ℕ → ℕ = box_by a.t.now in
     let b : List ℕ = a.block in
     let hb : length b ≡ 16 = search rules in
-    fill_done (layer_from f a.from b) b _ _ 16 c.loop-j.invariant.1 (length_layer f a.from b ∙ hb) hb c.loop-j-test.false
+    fill_done (layer_from f a.from b) b _ _ 16 c.loop-j.invariant (length_layer f a.from b ∙ hb) hb (omega arith)

@@ -6,7 +6,7 @@ use Rattle.sealed_archives.proofs.Opens.{seals_fits}
 use Rattle.seal.proofs.write_archive.Goals as goal
 
 pub slice_bounds-archive-end : goal.slice_bounds-archive-end
-slice_bounds-archive-end c = seals_fits _ _ _ _ _ _ _ c.in-Bytes.ensures _ refl
+slice_bounds-archive-end c = seals_fits _ _ _ _ _ _ _ c.in-Ok.ensures _ refl
 
-pub slice_bounds-write_out-end : goal.slice_bounds-write_out-end
-slice_bounds-write_out-end c = sym (length-take-le _ _ (seals_fits _ _ _ _ _ _ _ c.in-Bytes.ensures _ refl))
+pub slice_bounds-write_all-end : goal.slice_bounds-write_all-end
+slice_bounds-write_all-end c = sym (length-take-le _ _ (seals_fits _ _ _ _ _ _ _ c.in-Ok.ensures _ refl))

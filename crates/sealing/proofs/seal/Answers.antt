@@ -1,53 +1,31 @@
--- `sealing::seal` meets its contract: the sheet is asked first, then the key file; its key is never refused.
-use mathlib.Core.Path.{◌≡◌, sym, ap, subst, ◌∙◌}
-use mathlib.Core.List.{List}
-use Prim.Native.Nat.{ℕ, ◌≤◌}
-use native.Mathlib.Omega.{arith}
-use lib.ListN.{length, take}
-use Rattle.expansion.specs.KeySchedule.{Prepares}
-use Rattle.expansion.proofs.Taken.{rounds_ready}
-use Rattle.sheet.proofs.Cases.{sheet_good}
-use Rattle.expansion.specs.declared.Prepared.{Prepared}
-use Rattle.sheet.specs.Sheet.{key_size_on}
-use Rattle.sealing.specs.Seal.{key_on}
-use Rattle.sealing.proofs.Ways.{sheet_refused, key_file_short, key_taken, sealed_under}
+-- `sealing::seal` meets its contract: the sheet is asked first, then the key file, the tag key and the rest.
+use Rattle.std.proofs.Common.{sym}
+use Rattle.std.proofs.lemmas.Result.{err_from_is_err_and}
+use Rattle.refusals.proofs.Numbers.{number_some}
+use Rattle.sealing.proofs.Ways.{sheet_refused, key_file_refused, tag_key_refused, sealed_under}
 use Rattle.sealing.proofs.seal.Goals as goal
 
--- where the key was prepared, the key file is long enough for the key that is cut from it
-start : (key_file sheet key : List ℕ) (size : ℕ) (p : Prepared) → size ≡ key_size_on sheet → size ≤ length key_file
-    → key ≡ take size key_file → Prepares key p
-    → (key_size_on sheet ≤ length key_file) × Prepares (key_on key_file sheet) p
-start key_file sheet key size p e long cut r =
-    (omega arith, subst (λ (k : List ℕ). Prepares k p) (cut ∙ ap (λ (n : ℕ). take n key_file) e) r)
+pub returns-in_err-sheet : goal.returns-in_err-sheet
+returns-in_err-sheet c =
+    let p = err_from_is_err_and c.from_residual.result c.from_residual.ensures.1 in
+    rw (p.1, p.2) (sheet_refused _ _ _ _ _ _ c.in_err-sheet.ensures.number (number_some _))
 
-pub returns-then-n-ne0 : goal.returns-then-n-ne0
-returns-then-n-ne0 c = sheet_refused _ _ _ _ _ _ c.refusal-n.ensures c.if-n-ne0.true
+pub returns-in_err-schedule : goal.returns-in_err-schedule
+returns-in_err-schedule c =
+    let p = err_from_is_err_and c.from_residual-in_err-schedule.result c.from_residual-in_err-schedule.ensures.1 in
+    rw (p.1, p.2) (key_file_refused _ _ _ _ _ (sym c.in_ok-sheet.ensures.number) _
+    (rw c.in_ok-sheet.ensures.same at c.in_err-schedule.ensures.number) (number_some _))
 
-pub returns-then-key_file-size : goal.returns-then-key_file-size
-returns-then-key_file-size c =
-    let none = sym c.refusal-n.ensures ∙ c.if-n-ne0.false in
-    let size = c.key_size-size.ensures in
-    key_file_short _ _ _ _ _ none (omega (arith, c.if-key_file-size.true))
-
-pub returns-in_default : goal.returns-in_default
-returns-in_default c =
-    let a = c.args in
-    let none = sym c.refusal-n.ensures ∙ c.if-n-ne0.false in
-    let long = c.if-key_file-size.false in
-    let s = start a.key_file.now a.sheet.now _ _ c.prepare-prepared.result c.key_size-size.ensures.0 long
-    c.part.ensures.bytes c.prepare-prepared.ensures in
-    absurd (key_taken a.key_file.now a.sheet.now none s.0 c.prepare-prepared.result s.1 c.in_default.not-Ready)
-
-pub seal_under-requires : goal.seal_under-requires
-seal_under-requires c =
-    (rounds_ready _ _ c.prepare-prepared.ensures c.in-Ready.is, (sheet_good _ (sym c.refusal-n.ensures ∙ c.if-n-ne0.false)).five)
+pub returns-in_err-tag_schedule : goal.returns-in_err-tag_schedule
+returns-in_err-tag_schedule c =
+    let p = err_from_is_err_and c.from_residual-in_err-tag_schedule.result c.from_residual-in_err-tag_schedule.ensures.1 in
+    rw (p.1, p.2) (tag_key_refused _ _ _ _ _ (sym c.in_ok-sheet.ensures.number)
+    (sym (rw c.in_ok-sheet.ensures.same at c.in_ok-schedule.ensures.number)) _ c.in_err-tag_schedule.ensures.number (number_some _))
 
 pub returns : goal.returns
 returns c =
     let a = c.args in
-    let none = sym c.refusal-n.ensures ∙ c.if-n-ne0.false in
-    let enough = c.if-key_file-size.false in
-    let s = start a.key_file.now a.sheet.now _ _ c.prepare-prepared.result c.key_size-size.ensures.0 enough
-    c.part.ensures.bytes c.prepare-prepared.ensures in
-    sealed_under a.key_file.now a.tag_key.now a.sheet.now a.plain.now a.out.now none s.0 _ _ _ s.1.schedule
-    c.seal_under.ensures
+    sealed_under a.key_file.now a.tag_key.now a.sheet.now a.plain.now a.out.now (sym c.in_ok-sheet.ensures.number)
+    (sym (rw c.in_ok-sheet.ensures.same at c.in_ok-schedule.ensures.number)) (sym c.in_ok-tag_schedule.ensures.number) _ _ _ _
+    (rw c.in_ok-sheet.ensures.same at c.in_ok-schedule.ensures.same) c.in_ok-tag_schedule.ensures.made
+    (rw c.in_ok-sheet.ensures.same at c.seal_under.ensures)

@@ -1,13 +1,8 @@
--- `tables::chain_blocks` meets its contract: the blocks before `from` are taken in.
-use mathlib.Core.Path.{◌≡◌}
-use Prim.Native.Nat.{◌-◌, ◌/◌, ◌%◌, ◌≤◌}
-use lib.ListN.{length}
+-- `tables::chain_blocks`: the blocks before this one are taken in.
+use Rattle.std.proofs.Common.{◌≡◌}
 use Rattle.blocks.specs.Chains.{zero_block, chained}
-use Rattle.circuit.specs.Circuit.{aria}
+use Rattle.circuit.specs.Run.{encrypted}
 use Rattle.tables.proofs.chain_blocks.Given as goal
 
-abbrev pub invariant-loop-from : goal.invariant-loop-from
-invariant-loop-from l = (l.from ≤ length l.run) × (l.from % 16 ≡ 0) × (l.x ≡ chained (aria l.n l.keys) zero_block (l.from / 16) l.run)
-
-abbrev pub decreases-loop-from : goal.decreases-loop-from
-decreases-loop-from l = length l.run - l.from
+abbrev pub invariant-loop-block : goal.invariant-loop-block
+invariant-loop-block l = l.x ≡ chained (encrypted l.good.schedule) zero_block l.block-index l.run

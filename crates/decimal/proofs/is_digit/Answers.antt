@@ -1,9 +1,0 @@
--- `decimal::is_digit` meets its contract: the two comparisons are those of the definition.
-use borrow.Author.Tests.{le-leb, lt-leb}
-use Rattle.decimal.proofs.is_digit.Goals as goal
-
-pub returns-then-b-lt48 : goal.returns-then-b-lt48
-returns-then-b-lt48 c = rw (lt-leb _ _ c.if-b-lt48.true)
-
-pub returns : goal.returns
-returns c = rw (le-leb _ _ c.if-b-lt48.false)

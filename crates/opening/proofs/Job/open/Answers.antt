@@ -1,0 +1,25 @@
+-- `opening::Job::open` meets its contract: the range is held to the body, then to the buffer, and its part of the body is decrypted.
+use mathlib.Core.Path.{◌≡◌, sym, ap, ◌∙◌}
+use mathlib.Core.List.{List}
+use Prim.Native.Nat.{ℕ, ◌+◌, ◌-◌}
+use native.Mathlib.Omega.{arith}
+use native.Mathlib.Nat.{sub-zero}
+use Rattle.ctr.specs.Counter.{keystream, add_stream}
+use Rattle.opening.proofs.Opening.{body_past, body_short, body_open}
+use Rattle.opening.proofs.Job.open.Goals as goal
+
+pub returns-then-passes_end : goal.returns-then-passes_end
+returns-then-passes_end c = body_past _ _ _ _ _ _ (sym c.passes_end.ensures ∙ c.if-passes_end.true)
+
+pub returns-then-out-count : goal.returns-then-out-count
+returns-then-out-count c = body_short _ _ _ _ _ _ (sym c.passes_end.ensures ∙ c.if-passes_end.false) c.if-out-count.true
+
+pub returns : goal.returns
+returns c =
+    let a = c.args in
+    let job = a.self in
+    let within = sym c.passes_end.ensures ∙ c.if-passes_end.false in
+    let size : a.first + a.count - a.first ≡ a.count = omega arith in
+    body_open _ _ _ _ _ _ within _ _ _ c.if-out-count.false size (sub-zero _)
+    (c.apply_good.ensures
+    ∙ ap (λ (l : List ℕ). add_stream (keystream job.schedule.schedule job.prefix) a.first l) c.copy_from_slice.ensures.after)

@@ -1,0 +1,86 @@
+// What the four programs share: the files of the keys, and what goes wrong and is said of it.
+#![tactic(auto)]
+
+ghost use Rattle.std.specs.Prelude.{◌≡◌, ◌++◌, ◌≤◌, length};
+ghost use Rattle.programs.specs.Failures.{failure_text};
+ghost use Rattle.programs.specs.declared.Failure.TheVariants.{Read, Write, Refused};
+
+use arrayvec::ArrayVec;
+use inputs::ReadFailed;
+use listing::Listing;
+use refusals::Refusal;
+use std::io;
+use std::rt::Files;
+
+// What may go wrong: a read of standard input, or of the sheet of jobs, a write of the output; or a call refuses.
+#[derive(Clone, Copy, Debug, PartialEq, Eq)]
+pub enum Failure {
+    Read,
+    ReadSheet,
+    Write,
+    Refused(Refusal),
+}
+
+// The sheet is the one file beside standard input that has to be read to its end, and its program says so.
+impl From<ReadFailed> for Failure {
+    ghost from_gives = { λ _ f. f ≡ Read };
+
+    fn from(_: ReadFailed) -> Failure {
+        Failure::Read
+    }
+}
+
+impl From<io::Error> for Failure {
+    ghost from_gives = { λ _ f. f ≡ Write };
+
+    fn from(_: io::Error) -> Failure {
+        Failure::Write
+    }
+}
+
+impl From<Refusal> for Failure {
+    ghost from_gives = { λ refusal f. f ≡ Refused refusal };
+
+    fn from(refusal: Refusal) -> Failure {
+        Failure::Refused(refusal)
+    }
+}
+
+// A line of a program's name and more.
+fn named(name: [u8; 4], more: &[u8]) -> Listing
+    requires { length more.now ≤ 1000 }
+    ensures { result.items ≡ name ++ more.now }
+{
+    let mut text = Listing::new();
+    text.try_extend_from_slice(&name).unwrap();
+    text.try_extend_from_slice(more).unwrap();
+    text
+}
+
+impl Failure {
+    // The line that a program of that name says of it.
+    pub fn text(self, name: [u8; 4]) -> Listing
+        ensures { result.items ≡ failure_text name self }
+    {
+        match self {
+            Failure::Read => named(name, b": could not read\n"),
+            Failure::ReadSheet => named(name, b": could not read sheet.bin\n"),
+            Failure::Write => named(name, b": could not write\n"),
+            Failure::Refused(refusal) => listing::refusal(u32::from(refusal)),
+        }
+    }
+}
+
+// The bytes of a key file: one more than the longest key, so that a file which is longer, or cannot be read, is no key.
+pub type KeyFile = ArrayVec<u8, 33>;
+
+// Reads a key file.
+pub fn key_file<R: Files>(rt: &R, name: &[u8]) -> KeyFile
+    ensures { length result.items ≤ 33 }
+{
+    let mut buffer = [0u8; 33];
+    let n = inputs::named_file(rt, name, &mut buffer);
+    let mut bytes = KeyFile::from(buffer);
+    bytes.truncate(n);
+    bytes
+}
