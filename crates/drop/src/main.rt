@@ -33,7 +33,7 @@ fn write_archive(
     Ok(())
 }
 
-// Prints the jobs that dropping those of the list would leave.
+// Prints the jobs that dropping those of the list would leave; the line of a refusal goes to standard error.
 fn print_preview(
     rt: &HostRuntime,
     key: &[u8],
@@ -41,10 +41,12 @@ fn print_preview(
     file: &[u8],
     list: &[u8],
 ) -> Result<(), Failure> {
-    let left = preview_listing::list_left(key, tag_key, file, list).map_err(
-        |refused| refused.refusal,
-    )?;
-    outputs::write_all(&rt.stdout(), &left)?;
+    match preview_listing::list_left(key, tag_key, file, list) {
+        Ok(left) => outputs::write_all(&rt.stdout(), left.bytes())?,
+        Err(refused) => {
+            let _ = outputs::write_all(&rt.stderr(), refused.line.bytes());
+        }
+    }
     Ok(())
 }
 
@@ -137,6 +139,6 @@ fn main(rt: HostRuntime) {
         print_usage(&rt);
     }
     if let Err(failure) = drop_listed(&rt, preview, &list[..8 * words]) {
-        let _ = outputs::write_all(&rt.stderr(), &failure.text(*b"drop"));
+        let _ = outputs::write_all(&rt.stderr(), failure.text(*b"drop").bytes());
     }
 }

@@ -20,7 +20,10 @@ fn list(rt: &HostRuntime) -> Result<(), Failure> {
     // one byte more than the longest archive
     let mut file = [0u8; 65537];
     let n = inputs::standard_input(rt, &mut file)?;
-    outputs::write_all(&rt.stdout(), &listing::list(&key, &tag_key, &file[..n]))?;
+    outputs::write_all(
+        &rt.stdout(),
+        listing::list(&key, &tag_key, &file[..n]).bytes(),
+    )?;
     Ok(())
 }
 
@@ -30,6 +33,6 @@ fn main(rt: HostRuntime) {
         print_usage(&rt);
     }
     if let Err(failure) = list(&rt) {
-        let _ = outputs::write_all(&rt.stderr(), &failure.text(*b"jobs"));
+        let _ = outputs::write_all(&rt.stderr(), failure.text(*b"jobs").bytes());
     }
 }

@@ -101,6 +101,6 @@ fn main(rt: HostRuntime) {
     let mut number = [0u8; 9];
     let d = inputs::word(&rt, 1, &mut number);
     if let Err(failure) = open_job(&rt, &number[..d], asked) {
-        let _ = outputs::write_all(&rt.stderr(), &failure.text(*b"open"));
+        let _ = outputs::write_all(&rt.stderr(), failure.text(*b"open").bytes());
     }
 }

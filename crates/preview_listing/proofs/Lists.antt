@@ -4,7 +4,6 @@ use mathlib.Core.Path.{◌≡◌, refl, sym, ap, ◌∙◌, subst}
 use mathlib.Core.List.{List}
 use Prim.Native.Nat.{ℕ, zero, suc, ◌*◌, ◌≤◌}
 use lib.ListN.{length, take}
-use Rattle.arrayvec.specs.ArrayVec.{ArrayVec}
 use Rattle.refusals.specs.Answers.{unless_refused}
 use Rattle.refusals.specs.declared.Refusal.{Refusal}
 use Rattle.refusals.specs.Numbers.{number}
@@ -18,6 +17,7 @@ use Rattle.dropped_jobs.proofs.Previews.{new_directory, preview_asked, seen_fron
 use Rattle.dropped_jobs.proofs.Leaves as leaves
 use Rattle.listing.specs.Text.{refused_word, number_line, directory_text}
 use Rattle.listing.specs.Listing.{listing_text, Holds}
+use Rattle.listing.specs.declared.Listing.{Listing}
 use Rattle.listing.proofs.Directories.{directory_lists}
 use Rattle.preview_listing.specs.Text.{preview_number, preview_text, left_text, ListsLeft, PreviewLists}
 
@@ -39,7 +39,7 @@ module _ (key tag_key file list : List ℕ) where
 
   module _ (held seen : List ℕ) where
     -- a refusal in a buffer of 1,024 bytes is not 20
-    pub left_refused : (e : Refusal) → Previews key tag_key file list held (Err e) seen → 1024 ≤ length held → (l : ArrayVec ℕ)
+    pub left_refused : (e : Refusal) → Previews key tag_key file list held (Err e) seen → 1024 ≤ length held → (l : Listing)
         → Holds (number_line refused_word (number e)) l
         → ListsLeft key tag_key file list (Err record { refusal = e; line = l })
     unfolding preview_cases
@@ -49,7 +49,7 @@ module _ (key tag_key file list : List ℕ) where
         ((preview_bounds key tag_key file list held (Err e) seen ps).2 room) (sym ps.number) in
         record { number = sym q; text = subst (λ (t : List ℕ). Holds t l) (text_some (number e) some q) h }
 
-    pub left_listed : (p : Previewed) → Previews key tag_key file list held (Ok p) seen → (l : ArrayVec ℕ)
+    pub left_listed : (p : Previewed) → Previews key tag_key file list held (Ok p) seen → (l : Listing)
         → Holds (directory_text (take (16 * p.count) seen)) l
         → ListsLeft key tag_key file list (Ok l)
     left_listed p ps l h =

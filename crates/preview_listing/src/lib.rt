@@ -7,7 +7,7 @@ use listing::Listing;
 use refusals::Refusal;
 
 // A refusal, and its line.
-#[derive(Drop)]
+#[derive(Clone, Copy)]
 pub struct RefusedListing {
     pub refusal: Refusal,
     pub line: Listing,

@@ -2,6 +2,7 @@
 #![tactic(auto)]
 
 ghost use Rattle.std.specs.Prelude.{◌≡◌, ◌++◌, ◌≤◌, length};
+ghost use Rattle.listing.specs.Listing.{Holds};
 ghost use Rattle.programs.specs.Failures.{failure_text};
 ghost use Rattle.programs.specs.declared.Failure.TheVariants.{Read, Write, Refused};
 
@@ -47,20 +48,22 @@ impl From<Refusal> for Failure {
 }
 
 // A line of a program's name and more.
+#[tactic(auto, using(listing::proofs::Fits::held_whole, listing::proofs::Fits::held_as))]
 fn named(name: [u8; 4], more: &[u8]) -> Listing
     requires { length more.now ≤ 1000 }
-    ensures { result.items ≡ name ++ more.now }
+    ensures { Holds (name ++ more.now) result }
 {
-    let mut text = Listing::new();
+    let mut text = ArrayVec::<u8, 1004>::new();
     text.try_extend_from_slice(&name).unwrap();
     text.try_extend_from_slice(more).unwrap();
-    text
+    Listing::of(&text)
 }
 
 impl Failure {
     // The line that a program of that name says of it.
+    #[tactic(auto, using(listing::proofs::Fits::held_as))]
     pub fn text(self, name: [u8; 4]) -> Listing
-        ensures { result.items ≡ failure_text name self }
+        ensures { Holds (failure_text name self) result }
     {
         match self {
             Failure::Read => named(name, b": could not read\n"),

@@ -37,7 +37,10 @@ fn write_archive(
     );
     match sealed {
         Ok(n) => outputs::write_all(&rt.stdout(), &archive[..n])?,
-        Err(refusal) => outputs::write_all(&rt.stdout(), &listing::refusal(u32::from(refusal)))?,
+        Err(refusal) => outputs::write_all(
+            &rt.stdout(),
+            listing::refusal(u32::from(refusal)).bytes(),
+        )?,
     }
     Ok(())
 }
@@ -71,6 +74,6 @@ fn main(rt: HostRuntime) {
         print_usage(&rt);
     }
     if let Err(failure) = seal(&rt) {
-        let _ = outputs::write_all(&rt.stderr(), &failure.text(*b"seal"));
+        let _ = outputs::write_all(&rt.stderr(), failure.text(*b"seal").bytes());
     }
 }

@@ -18,5 +18,5 @@ returns c =
     let fits : length (number_line jobs_word n ++ job_lines d n) ≤ 1352 =
     simp length-append (omega (arith, number_line_short jobs_word 1 n (omega arith), lines_short d c.requires n (omega arith)))
     in
-    puts_held (number_line jobs_word n ++ job_lines d n) _ _ c.new-text.ensures fits
-    (puts_then c.put_line.ensures c.put_entries.ensures)
+    puts_held (number_line jobs_word n ++ job_lines d n) _ _ _ _ c.new-text.ensures fits
+    (puts_then c.put_line.ensures c.put_entries.ensures) c.deref.ensures.0 c.of.ensures

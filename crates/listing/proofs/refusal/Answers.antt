@@ -8,5 +8,5 @@ use Rattle.listing.proofs.refusal.Goals as goal
 pub returns : goal.returns
 returns c =
     let n : ℕ = c.args.n in
-    puts_held (number_line refused_word n) _ _ c.new-text.ensures (omega (arith, number_line_short refused_word 9 n (omega arith)))
-    c.put_line.ensures
+    puts_held (number_line refused_word n) _ _ _ _ c.new-text.ensures (omega (arith, number_line_short refused_word 9 n (omega arith)))
+    c.put_line.ensures c.deref.ensures.0 c.of.ensures
