@@ -1,18 +1,19 @@
--- Laws of a chain over the blocks of a run, over any function of a block: its length, that it reads the
+-- Laws of a chain over the blocks of a run, over any function of a block: its length, a turn of the loop that makes it, that it reads the
 -- blocks that it takes in and no others, and, where the function is one-to-one on blocks, that one block changed is seen at its end.
 -- Assumes nothing.
 use mathlib.Core.Path.{◌≡◌, refl, sym, ap, ap₂, ◌∙◌, subst}
 use mathlib.Core.List.{List}
 use mathlib.Core.Logic.{⊎_elim}
-use Prim.Native.Nat.{ℕ, zero, suc, ◌*◌, ◌≤◌, ◌<◌}
+use Prim.Native.Nat.{ℕ, zero, suc, ◌+◌, ◌-◌, ◌*◌, ◌/◌, ◌%◌, ◌≤◌, ◌<◌}
 use native.Mathlib.Nat.{eq-or-lt_of_le}
 use native.Mathlib.Omega.{arith}
-use lib.ListN.{length, take, drop}
+use lib.ListN.{length, take, drop, length-drop}
+use lib.Seq.{length-take-le}
 use Rattle.octets.proofs.Parts.{part_front}
 use Rattle.blocks.specs.Xor.{xor_block}
-use Rattle.blocks.specs.Blocks.{block_at}
+use Rattle.blocks.specs.Blocks.{block_of, block_at}
 use Rattle.blocks.specs.Chains.{chained}
-use Rattle.blocks.proofs.Blocks.{length_block_at, drop_same}
+use Rattle.blocks.proofs.Blocks.{block_whole, length_block_at, drop_same}
 use Rattle.blocks.proofs.XorBlock.{length_xor, xor_cancel_left, xor_cancel_right}
 
 module _ (f : List ℕ → List ℕ) (start : List ℕ) where
@@ -21,6 +22,23 @@ module _ (f : List ℕ → List ℕ) (start : List ℕ) where
   unfolding chained
   length_chain keeps h zero xs = h
   length_chain keeps h (suc k) xs = keeps _ (length_xor (chained f start k xs) _ ∙ length_chain keeps h k xs)
+
+  -- a turn at byte `at` of a run of whole blocks: the part there is loaded and added, and the sum put through f
+  pub chain_turn : (xs x b y : List ℕ) (at : ℕ) → at % 16 ≡ 0 → at + 16 ≤ length xs → x ≡ chained f start (at / 16) xs
+      → b ≡ block_of (take (at + 16 - at) (drop at xs)) → y ≡ f (xor_block x b) → y ≡ chained f start ((at + 16) / 16) xs
+  unfolding chained
+  chain_turn xs x b y at aligned room ex eb ey =
+      let size : at + 16 - at ≡ 16 = omega arith in
+      let place : at ≡ 16 * (at / 16) = omega arith in
+      let next : suc (at / 16) ≡ (at + 16) / 16 = omega arith in
+      let left : 16 ≤ length (drop at xs) = simp length-drop (omega arith) in
+      let here : b ≡ block_at (at / 16) xs =
+      eb
+      ∙ ap (λ (n : ℕ). block_of (take n (drop at xs))) size
+      ∙ block_whole (take 16 (drop at xs)) (length-take-le 16 (drop at xs) left)
+      ∙ ap (λ (n : ℕ). take 16 (drop n xs)) place
+      in
+      ey ∙ ap₂ (λ (u v : List ℕ). f (xor_block u v)) ex here ∙ ap (λ (n : ℕ). chained f start n xs) next
 
   -- a chain over the first k blocks does not read past them
   pub chain_front : (k n : ℕ) (xs : List ℕ) → 16 * k ≤ n → chained f start k (take n xs) ≡ chained f start k xs

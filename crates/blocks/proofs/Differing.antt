@@ -3,14 +3,17 @@
 use mathlib.Core.Path.{◌≡◌, refl, sym, ap, ap₂, ◌∙◌}
 use mathlib.Core.Bool.{Bool, true, false}
 use mathlib.Core.List.{List, [], ◌∷◌}
-use Prim.Native.Nat.{ℕ, ◌+◌, ◌*◌, ◌/◌, ◌%◌, max}
+use Prim.Native.Nat.{ℕ, zero, suc, ◌+◌, ◌*◌, ◌/◌, ◌%◌, ◌<◌, max}
 use native.Mathlib.Nat.{suc_inj, suc-ne-zero}
+use native.Mathlib.Numerals.{add-one}
 use native.Mathlib.Omega.{arith}
+use borrow.Author.Count.{below_more}
 use borrow.Author.Tests.{eqb-true, eqb-false}
 use lib.Arith.{bin_ind}
 use lib.Bits.{bit_or, bit_xor, or_step, or_comm, xor_self}
 use lib.Dec.{eqb}
-use lib.ListN.{length}
+use lib.ListN.{length, get_or}
+use lib.Seq.{ext_get_or}
 use Rattle.std.specs.List.{fold, zip}
 use Rattle.octets.specs.Equality.{same_bytes}
 use Rattle.octets.proofs.Equality.{eq_same, ne_same}
@@ -54,3 +57,42 @@ difference_same a b d l e = by_case (eqb d 0) refl
     by_case : (t : Bool) → eqb d 0 ≡ t → eqb d 0 ≡ same_bytes a b
     by_case true p = p ∙ sym (eq_same a b (none_differs a b 0 l (sym e ∙ eqb-true d 0 p)))
     by_case false p = p ∙ sym (ne_same a b (λ q. eqb-false d 0 p (e ∙ ap (λ (x : List ℕ). gathered a x 0) (sym q) ∙ self_differs a)))
+
+-- ---- place by place
+
+-- what has been gathered of the first i pairs
+unfoldable pub differing : List ℕ → List ℕ → ℕ → ℕ
+differing a b zero = 0
+differing a b (suc i) = bit_or (differing a b i) (bit_xor (get_or a i 0) (get_or b i 0))
+
+pub differing_turn : (a b : List ℕ) (i d : ℕ) → d ≡ differing a b i
+    → bit_or d (bit_xor (get_or a i 0) (get_or b i 0)) ≡ differing a b (i + 1)
+unfolding differing
+differing_turn a b i d e = ap (λ (x : ℕ). bit_or x (bit_xor (get_or a i 0) (get_or b i 0))) e ∙ ap (differing a b) (sym (add-one i))
+
+none_differs_at : (a b : List ℕ) (i : ℕ) → differing a b i ≡ 0 → (k : ℕ) → k < i → get_or a k 0 ≡ get_or b k 0
+unfolding differing
+none_differs_at a b zero e k l = absurd (omega arith)
+none_differs_at a b (suc i) e k l =
+    let seen : differing a b i ≡ 0 = or_none (differing a b i) (bit_xor (get_or a i 0) (get_or b i 0)) e in
+    let last : bit_xor (get_or a i 0) (get_or b i 0) ≡ 0 =
+    or_none (bit_xor (get_or a i 0) (get_or b i 0)) (differing a b i) (or_comm (bit_xor (get_or a i 0) (get_or b i 0)) (differing a b i)
+    ∙ e)
+    in
+    below_more _ _ (none_differs_at a b i seen) (xor_zero_eq (get_or a i 0) (get_or b i 0) last) k (rw add-one l)
+
+self_differs_at : (a : List ℕ) (i : ℕ) → differing a a i ≡ 0
+unfolding differing
+self_differs_at a zero = refl
+self_differs_at a (suc i) = ap₂ bit_or (self_differs_at a i) (xor_self (get_or a i 0))
+
+-- what has been gathered of all pairs tells whether the blocks are equal
+pub differing_same : (a b : List ℕ) (n d : ℕ) → length a ≡ n → length b ≡ n → d ≡ differing a b n → eqb d 0 ≡ same_bytes a b
+differing_same a b n d la lb e = by_case (eqb d 0) refl
+  where
+    by_case : (t : Bool) → eqb d 0 ≡ t → eqb d 0 ≡ same_bytes a b
+    by_case true p =
+        let none : differing a b n ≡ 0 = sym e ∙ eqb-true d 0 p in
+        p ∙ sym (eq_same a b (ext_get_or 0 a b (la ∙ sym lb) (λ k l. none_differs_at a b n none k (omega arith))))
+    by_case false p =
+        p ∙ sym (ne_same a b (λ q. eqb-false d 0 p (e ∙ ap (λ (x : List ℕ). differing a x n) (sym q) ∙ self_differs_at a n)))

@@ -87,7 +87,14 @@ module _ (s : Schedule) (xs : List ℕ) where
       by_number : (k : ℕ) → (k ≡ 0 → ⊥) → unless_refused k (each_block (encrypted s) xs) xs ≡ xs
       by_number zero h = absurd (h refl)
       by_number (suc k) h = refl
-      -- ---- the contract of a run, refused and done
+
+  -- ---- the contract of a run, refused and done
+
+  pub ran_refused : (r : ℕ) → r ≡ run_number s.rounds (length xs) → (r ≡ 0 → ⊥) → Ran s xs r xs
+  ran_refused r e h = record { number = e; bytes = sym (bytes_refused (λ q. h (e ∙ q))) }
+
+  pub ran_done : (r : ℕ) (ys : List ℕ) → r ≡ run_number s.rounds (length xs) → r ≡ 0 → ys ≡ each_block (encrypted s) xs → Ran s xs 0 ys
+  ran_done r ys e z d = record { number = sym z ∙ e; bytes = d ∙ sym (bytes_done (sym e ∙ z)) }
 
 -- a run of one block is the block through the cipher
 pub one_block : (s : Schedule) (b : List ℕ) (r : ℕ) (after : List ℕ) → good_rounds s.rounds ≡ true → length b ≡ 16 → Ran s b r after

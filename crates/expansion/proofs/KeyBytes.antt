@@ -2,12 +2,17 @@
 -- Assumes nothing.
 use mathlib.Core.Path.{◌≡◌, refl, sym, ap, subst, ◌∙◌}
 use mathlib.Core.Logic.{⊎_elim}
-use mathlib.Core.List.{List, ◌++◌}
-use Prim.Native.Nat.{ℕ, ◌+◌, ◌-◌, ◌*◌, ◌≤◌, ◌<◌}
-use native.Mathlib.Nat.{eq-or-lt_of_le, le_of_suc-le-suc}
+use mathlib.Core.List.{List, [], ◌∷◌, ◌++◌}
+use Prim.Native.Nat.{ℕ, zero, suc, ◌+◌, ◌-◌, ◌*◌, ◌≤◌, ◌<◌}
+use native.Mathlib.Nat.{eq-or-lt_of_le, not-suc-le-zero, le_of_suc-le-suc}
 use native.Mathlib.Omega.{arith}
 use native.Mathlib.Numerals.{add-one}
-use lib.ListN.{length, take, drop, replicate, length-append, length-take, length-drop}
+use mir.Syntax.{w8}
+use mir.Val.{Val}
+use denote.Plain.{UInt}
+use denote.Array.{Array, each}
+use denote.Shadow.{shadow}
+use lib.ListN.{length, get_or, take, drop, replicate, length-append, length-take, length-drop}
 use lib.Seq.{length-take-le}
 use Rattle.octets.specs.Parts.{overwritten}
 use Rattle.octets.proofs.Parts.{drop_replicate, overwritten_whole}
@@ -17,6 +22,14 @@ use Rattle.blocks.proofs.Rows.{length_row, row_at, row_turn}
 use Rattle.circuit.specs.Circuit.{key_at}
 use Rattle.circuit.proofs.Keys.{part_key}
 use Rattle.expansion.specs.KeySchedule.{key_bytes}
+
+-- an array of arrays of sixteen bytes: what the code knows of it is that each element has that length
+pub array_sixteen : (ks : List (List ℕ)) (vs : List Val) → shadow (each (List ℕ) (Array (UInt w8) 16).own_val ks vs)
+    → (i : ℕ) → i < length ks → length (get_or ks i []) ≡ 16
+array_sixteen [] vs p i h = absurd (not-suc-le-zero h)
+array_sixteen (k ∷ ks) [] p i h = absurd p
+array_sixteen (k ∷ ks) (v ∷ vs) p zero h = p.0.1.0.1
+array_sixteen (k ∷ ks) (v ∷ vs) p (suc i) h = array_sixteen ks vs p.1 i (le_of_suc-le-suc h)
 
 -- the first i keys of a rule, each of sixteen bytes, are in their places
 abbrev pub Placed : (ℕ → List ℕ) → ℕ → List ℕ → Type 0

@@ -11,7 +11,7 @@ use Prim.Native.Nat.{ℕ, ◌+◌, ◌≤◌, ◌<◌}
 use native.Mathlib.Omega.{arith}
 use lib.Dec.{eqb}
 use lib.ListN.{length, get_or}
-use borrow.Author.Tests.{eqb-true}
+use borrow.Author.Tests.{eqb-true, ne_eqb}
 use Rattle.refusals.specs.Cases.{first_of}
 use Rattle.refusals.specs.Shared.{good_key, key_cases, good_rounds}
 use Rattle.refusals.proofs.Shared.{key_0, key_1, key_good, key_bad}
@@ -84,6 +84,29 @@ number_told n = by_case (eqb n 16 || (eqb n 24 || eqb n 32))
     by_case : (a : Bool) → ◌≡◌ {A = ℕ} (cond (not a) 1 0) (cond a 0 1)
     by_case true = refl
     by_case false = refl
+
+-- the rounds tell the case
+pub rounds_some : (n : ℕ) → (rounds_for n ≡ 0 → ⊥) → GoodKey n
+rounds_some n h = by_case (good_key n) refl
+  where
+    by_case : (a : Bool) → good_key n ≡ a → GoodKey n
+    by_case true p = length_good n p
+    by_case false p = absurd (h (length_bad n p).rounds)
+
+pub rounds_none : (n : ℕ) → rounds_for n ≡ 0 → BadKey n
+rounds_none n e = by_case (good_key n) refl
+  where
+    by_case : (a : Bool) → good_key n ≡ a → BadKey n
+    by_case true p = absurd (omega (arith, (length_good n p).some, e))
+    by_case false p = length_bad n p
+
+-- the rounds, as the tests of the code find them
+pub rounds_at : (m n : ℕ) → n ≡ m → rounds_for m ≡ rounds_for n
+rounds_at m n e = ap rounds_for (sym e)
+
+pub rounds_other : (n : ℕ) → (n ≡ 16 → ⊥) → (n ≡ 24 → ⊥) → (n ≡ 32 → ⊥) → 0 ≡ rounds_for n
+unfolding rounds_for
+rounds_other n p q r = rw (ne_eqb n 16 p, ne_eqb n 24 q, ne_eqb n 32 r)
 
 -- ---- the schedule
 

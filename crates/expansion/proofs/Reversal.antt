@@ -24,14 +24,21 @@ use Rattle.expansion.specs.Decryption.{decryption_key, decryption_keys, decrypti
 use Rattle.expansion.proofs.KeyBytes.{key_bytes_at}
 
 -- the first key and the last as they are, the others through A
-pub outer_key : (n : ℕ) (ks : List ℕ) (i : ℕ) → (i ≡ 0) ⊎ (i ≡ n) → decryption_key n ks i ≡ key_at ks (n - i)
+pub first_key : (n : ℕ) (ks : List ℕ) (i : ℕ) → i ≡ 0 → decryption_key n ks i ≡ key_at ks (n - i)
 unfolding decryption_key
-outer_key n ks i (inl e) = rw (eq-eqb i 0 e)
-outer_key n ks i (inr e) = by_case (eqb i 0)
+first_key n ks i e = rw (eq-eqb i 0 e)
+
+pub last_key : (n : ℕ) (ks : List ℕ) (i : ℕ) → i ≡ n → decryption_key n ks i ≡ key_at ks (n - i)
+unfolding decryption_key
+last_key n ks i e = by_case (eqb i 0)
   where
     by_case : (a : Bool) → cond (a || eqb i n) (key_at ks (n - i)) (diffusion (key_at ks (n - i))) ≡ key_at ks (n - i)
     by_case true = refl
     by_case false = rw (eq-eqb i n e)
+
+pub outer_key : (n : ℕ) (ks : List ℕ) (i : ℕ) → (i ≡ 0) ⊎ (i ≡ n) → decryption_key n ks i ≡ key_at ks (n - i)
+outer_key n ks i (inl e) = first_key n ks i e
+outer_key n ks i (inr e) = last_key n ks i e
 
 pub inner_key : (n : ℕ) (ks : List ℕ) (i : ℕ) → (i ≡ 0 → ⊥) → (i ≡ n → ⊥) → decryption_key n ks i ≡ diffusion (key_at ks (n - i))
 unfolding decryption_key

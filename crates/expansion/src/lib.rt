@@ -1,7 +1,7 @@
 // From the words of a key to its round keys, and from a schedule to its decryption schedule: what needs no box.
 #![tactic(auto)]
 
-ghost use Rattle.std.specs.Prelude.{◌≡◌, List, [], ℕ, ◌<◌, ◌≤◌, get_or, IfOk};
+ghost use Rattle.std.specs.Prelude.{◌≡◌, List, [], ℕ, ◌<◌, ◌≤◌, get_or, IfOk, Ok};
 ghost use Rattle.refusals.specs.Cases.{first_of};
 ghost use Rattle.refusals.specs.Numbers.{number_in};
 ghost use Rattle.refusals.specs.Shared.{key_cases, good_rounds};
@@ -125,7 +125,8 @@ fn decryption_key(keys: &[u8; 272], n: usize, i: usize) -> [u8; 16]
 
 // The schedule that undoes a good schedule (01's turning round).
 pub fn reversed(good: GoodSchedule) -> GoodSchedule
-    ensures { result.schedule ≡ decryption_of good.schedule }
+    ensures schedule { result.schedule ≡ decryption_of good.schedule }
+    ensures reverses { Reverses good.schedule (Ok result) }
 {
     let rounds = good.schedule.rounds;
     let used = good.schedule.keys;

@@ -5,12 +5,26 @@ use mathlib.Core.List.{List, [], ◌∷◌, ◌++◌, append-nil}
 use Prim.Native.Nat.{ℕ, zero, suc, ◌+◌, ◌-◌, ◌≤◌, min}
 use native.Mathlib.Nat.{sub-zero, zero-sub, suc-sub-suc}
 use native.Mathlib.Omega.{arith}
-use lib.ListN.{length, take, drop, replicate, drop_of_length-le}
-use lib.Seq.{take_all, take-take}
+use lib.ListN.{length, take, drop, replicate, length-drop, drop_of_length-le}
+use lib.Seq.{take_all, take-nil, take-take}
 use Rattle.std.proofs.lemmas.Grind.{common_steps}
 use Rattle.octets.specs.Parts.{overwritten}
+use Rattle.octets.proofs.Fill.{filled}
 
--- ---- parts of parts
+-- ---- parts
+
+-- past the end there are no bytes
+pub part_past : (s : List ℕ) (from n : ℕ) → length s ≤ from → take (length s - length s) (drop (length s) s) ≡ take n (drop from s)
+part_past s from n h =
+    let none : length s - length s ≡ 0 = omega arith in
+    ap (λ (k : ℕ). take k (drop (length s) s)) none ∙ sym (take-nil n) ∙ ap (take n) (sym (drop_of_length-le s h))
+
+-- what is there is all
+pub part_cut : (s : List ℕ) (from n : ℕ) → length s - from ≤ n → take (length s - from) (drop from s) ≡ take n (drop from s)
+part_cut s from n h =
+    let all : length (drop from s) ≤ length s - from = simp length-drop (omega arith) in
+    let more : length (drop from s) ≤ n = simp length-drop h in
+    take_all (length s - from) (drop from s) all ∙ sym (take_all n (drop from s) more)
 
 -- a part that ends within the first n bytes is one of these
 pub part_front : (s : List ℕ) (from m n : ℕ) → from + m ≤ n → take m (drop from (take n s)) ≡ take m (drop from s)
@@ -43,6 +57,24 @@ overwritten_front s xs h = ap (λ (l : List ℕ). l ++ drop (length s) xs) (take
 pub overwritten_cut : (s xs : List ℕ) → length xs ≤ length s → overwritten s xs ≡ take (length xs) s
 unfolding overwritten
 overwritten_cut s xs h = ap (λ (l : List ℕ). take (length xs) s ++ l) (drop_of_length-le xs h) ∙ append-nil (take (length xs) s)
+
+-- ---- where a copy of byte after byte ends: with the bytes, or with the buffer
+
+pub copied_all : (s xs out : List ℕ) (j : ℕ) → out ≡ filled s xs j → j ≡ length s → j ≤ length xs → out ≡ overwritten s xs
+copied_all s xs out j e f h =
+    let all : length s ≤ j = omega arith in
+    let fits : length s ≤ length xs = omega arith in
+    e
+    ∙ ap₂ (λ (l : List ℕ) (n : ℕ). l ++ drop n xs) (take_all j s all) f
+    ∙ sym (overwritten_front s xs fits)
+
+pub copied_full : (s xs out : List ℕ) (j : ℕ) → out ≡ filled s xs j → j ≡ length xs → j ≤ length s → out ≡ overwritten s xs
+unfolding overwritten
+copied_full s xs out j e f h =
+    let end : length xs ≤ j = omega arith in
+    let past : length xs ≤ length s = omega arith in
+    e
+    ∙ ap₂ (λ (u v : List ℕ). u ++ v) (ap (λ (n : ℕ). take n s) f) (drop_of_length-le xs end ∙ sym (drop_of_length-le xs past))
 
 -- as many bytes as both have are copied
 pub overwritten_upto : (s xs : List ℕ) (n : ℕ) → n ≡ min (length s) (length xs) → take n s ++ drop n xs ≡ overwritten s xs

@@ -8,5 +8,5 @@ pub returns : goal.returns
 returns c =
     record {
       number = c.in_ok-good.ensures.number;
-      schedule = c.reversed.ensures ∙ ap decryption_of (accepted c.args.schedule _ c.in_ok-good.ensures);
+      schedule = c.reversed.ensures.schedule ∙ ap decryption_of (accepted c.args.schedule _ c.in_ok-good.ensures);
     }

@@ -9,7 +9,7 @@ use lib.ListN.{length, get_or}
 use Rattle.std.specs.Int.{w128, rotate_right as rotated_right}
 use Rattle.octets.specs.Numbers.{Octets}
 use Rattle.rotation.specs.Rotation.{as_number, as_block}
-use Rattle.rotation.proofs.Numbers.{from_bytes, to_bytes, number_lt}
+use Rattle.rotation.proofs.Numbers.{from_bytes, to_bytes, block_lt}
 use Rattle.rotation.proofs.Rotations.{right_law}
 use Rattle.rotation.proofs.right.Goals as goal
 
@@ -24,4 +24,4 @@ returns c =
     ∙ ap as_block
     (c.rotate_right.ensures
     ∙ ap (λ (n : ℕ). rotated_right w128 n k) (c.from_be_bytes-number.ensures ∙ from_bytes b lb)
-    ∙ right_law (as_number b) k (number_lt b bytes lb))
+    ∙ right_law (as_number b) k (block_lt b bytes lb))
