@@ -23,6 +23,11 @@ module _ (s : Schedule) (prefix : List ℕ) (first : ℕ) (xs : List ℕ) where
   unfolding ctr_bytes
   ctr_refused e = ap (λ (n : ℕ). unless_refused n (add_stream (keystream s prefix) first xs) xs) (rounds_3 s.rounds e)
 
+  -- done, where the schedule is good
+  pub applied_good : (after : List ℕ) → good_rounds s.rounds ≡ true → after ≡ add_stream (keystream s prefix) first xs
+      → Applied s prefix first xs 0 after
+  applied_good after good e = record { number = sym (rounds_0 s.rounds good); bytes = e ∙ sym (ctr_done good) }
+
   -- refused
   pub applied_none : (n : ℕ) → n ≡ first_of (rounds_cases s.rounds) → (n ≡ 0 → ⊥) → Applied s prefix first xs n xs
   applied_none n e h = record { number = e; bytes = sym (ctr_refused (rounds_bad s.rounds (λ q. h (e ∙ q)))) }

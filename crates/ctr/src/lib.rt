@@ -69,17 +69,23 @@ impl Keystream {
         blocks::add(&chunk[offset..end], part);
     }
 
-    // Adds the keystream from byte `first` on to a run, by chunks of 255 blocks, which touch 256 where `first` lies within one: each run of
-    // the cipher makes its tables anew, so that a run for each block would be slow. A chunk's place is a block and an offset, since `first`
-    // plus the run's length need not fit a usize.
+    // Adds the keystream from byte `first` on to a run, by chunks of at most 256 blocks: each run of the cipher makes its tables anew, so
+    // that a run for each block would be slow. The first chunk is shorter where `first` lies within a block, so that the others begin with
+    // one, and none is made twice; an empty run has no chunk. A chunk's place is a block and an offset, since `first` plus the run's length
+    // need not fit a usize.
     fn add(self, first: usize, run: &mut [u8])
         ensures { run.new ≡ add_stream (keystream self.schedule.schedule self.prefix) first run.old }
     {
         let all = run.len();
-        for i in 0..all.div_ceil(4080) {
-            let at = 4080 * i;
-            let end = all.min(at + 4080);
-            self.add_chunk(first / 16 + 255 * i, first % 16, &mut run[at..end]);
+        let offset = first % 16;
+        for i in 0..(all + offset.min(all)).div_ceil(4096) {
+            let at = (4096 * i).saturating_sub(offset);
+            let end = all.min(4096 * (i + 1) - offset);
+            self.add_chunk(
+                first / 16 + 256 * i,
+                offset.saturating_sub(4096 * i),
+                &mut run[at..end],
+            );
         }
     }
 }
@@ -87,7 +93,8 @@ impl Keystream {
 // Counter mode in place; encryption and decryption are the one operation. The run is what stands from byte `first` on in something longer,
 // or all of it, with 0. Only the keystream blocks that it touches are made; they repeat after 2^36 bytes.
 pub fn apply_good(schedule: GoodSchedule, prefix: [u8; 12], first: usize, run: &mut [u8])
-    ensures { run.new ≡ add_stream (keystream schedule.schedule prefix) first run.old }
+    ensures stream { run.new ≡ add_stream (keystream schedule.schedule prefix) first run.old }
+    ensures applied { Applied schedule.schedule prefix first run.old 0 run.new }
 {
     let stream = Keystream { schedule, prefix };
     stream.add(first, run);
