@@ -1,28 +1,38 @@
 -- What an archive without a case, by any order of job numbers, is known to have: each stage's part of it.
 -- Assumes nothing.
-use mathlib.Core.Path.{◌≡◌, sym, ap, ◌∙◌}
+use mathlib.Core.Path.{◌≡◌, refl, sym, ap, ◌∙◌}
 use mathlib.Core.Bool.{true, not}
-use mathlib.Core.List.{List, ◌++◌}
+use mathlib.Core.List.{List, [], ◌∷◌, ◌++◌}
 use Prim.Native.Nat.{ℕ, ◌+◌, ◌<◌, ◌≤◌}
 use native.Mathlib.Omega.{arith}
 use borrow.Author.Tests.{not-false}
 use lib.ListN.{length}
+use Rattle.std.specs.Prelude.{Option, None, Some, Result, Ok, Err}
 use Rattle.refusals.specs.Cases.{first_of}
 use Rattle.refusals.specs.Shared.{good_key, good_rounds, key_cases, tag_key_cases}
 use Rattle.refusals.proofs.Cases.{first_none, one_passes, clear}
 use Rattle.refusals.proofs.Shared.{key_positive, key_good, tag_key_positive, tag_key_some}
 use Rattle.octets.proofs.Equality.{same_eq, eq_same}
+use Rattle.circuit.specs.Good.{no_schedule}
+use Rattle.circuit.specs.declared.GoodSchedule.{GoodSchedule}
+use Rattle.circuit.specs.declared.Schedule.{Schedule}
 use Rattle.expansion.specs.KeySchedule.{schedule_of}
 use Rattle.expansion.proofs.KeyLengths.{good_rounds_lem}
 use Rattle.header.specs.Fields.{layout_under, count_of, directory_end, directory_of, bodies_end, tag_of, tagged_of}
 use Rattle.header.specs.Cases.{header_cases}
 use Rattle.header.proofs.Cases.{header_positive}
 use Rattle.header.proofs.Accepted.{HeaderGood, header_good, directory_length}
+use Rattle.jobnumber.specs.Number.{order_of}
 use Rattle.directory.specs.Entries.{entries, entry_at, start_of, size_of}
 use Rattle.directory.specs.Check.{directory_cases_by}
 use Rattle.directory.proofs.Accepted.{directory_within}
 use Rattle.admission.specs.Check.{key_check, tag_bytes, wrong_tag_cases, file_cases_by, under_key_cases_by, check_cases_by}
-use Rattle.admission.proofs.Checking.{file_positive, wrong_tag_positive, check_directory}
+use Rattle.admission.specs.Check.{check_cases, tag_schedule_under, schedule_or_none, admitted_number, admitted_schedule}
+use Rattle.admission.specs.Check.{admitted_tag_schedule, IsTagSchedule, HandsOn}
+use Rattle.admission.specs.declared.Admitted.{Admitted}
+use Rattle.admission.specs.declared.NotAdmitted.{NotAdmitted}
+use Rattle.admission.proofs.Checking.{file_positive, wrong_tag_positive, check_directory, tag_schedule_good}
+use Rattle.admission.proofs.Tags.{no_bytes, none_schedule}
 
 -- the tag of a file without case 25
 pub tag_right : (tag_key file : List ℕ) → first_of (wrong_tag_cases tag_key file) ≡ 0 → tag_of file ≡ tag_bytes tag_key (tagged_of file)
@@ -95,3 +105,33 @@ module _ (order : List ℕ → ℕ) (key tag_key file : List ℕ) (e : first_of 
   accepted_within i l =
       let w = directory_within order (directory_of file) (directory_end file) (bodies_end file) accepted_directory i l in
       omega arith
+
+-- ---- what admission hands on then
+
+-- a schedule of no rounds is none that a run accepts
+no_rounds : (s : Schedule) → no_schedule ≡ s → good_rounds s.rounds ≡ true → ⊥
+unfolding good_rounds
+no_rounds s e good =
+    let none : good_rounds no_schedule.rounds ≡ true = ap (λ (t : Schedule). good_rounds t.rounds) e ∙ good in
+    let z : ◌≡◌ {A = ℕ} 0 1 = cc in omega arith
+
+-- what reads as the tag key's schedule is it, and none where there is no tag key
+tag_handed : (key tag_key file : List ℕ) (t : Option GoodSchedule) → first_of (check_cases key tag_key file) ≡ 0
+    → schedule_or_none t ≡ schedule_of tag_key
+    → IsTagSchedule tag_key t
+tag_handed key tag_key file (Some s) e is =
+    (λ z. no_rounds s.schedule (none_schedule ∙ ap schedule_of (sym (no_bytes tag_key z)) ∙ sym is) s.good, is)
+tag_handed key [] file None e is = refl
+tag_handed key (x ∷ xs) file None e is =
+    absurd (no_rounds _ is (accepted_tag_rounds order_of key (x ∷ xs) file e (λ z. omega arith)))
+
+pub handed_on : (key tag_key file : List ℕ) (r : Result Admitted NotAdmitted)
+    → admitted_number r ≡ first_of (check_cases key tag_key file)
+    → admitted_schedule r ≡ schedule_of key
+    → admitted_tag_schedule r ≡ tag_schedule_under key tag_key
+    → HandsOn key tag_key r
+handed_on key tag_key file (Ok a) n s t =
+    let none = sym n in
+    let good = accepted_key order_of key tag_key file none in
+    (s, tag_handed key tag_key file a.tag_schedule none (t ∙ sym (tag_schedule_good key tag_key good)))
+handed_on key tag_key file (Err e) n s t = tt

@@ -1,30 +1,32 @@
 -- The cases of checking: those of the key, of the tag key, of the header, of the directory and of the tag, one group after another; and the
 -- answers of key preparation as the first of them.
 -- Assumes nothing.
-use mathlib.Core.Path.{◌≡◌, refl, sym, ap, subst, ◌∙◌}
-use mathlib.Core.Bool.{Bool, true, not, ◌&&◌}
+use mathlib.Core.Path.{◌≡◌, refl, sym, ap, ◌∙◌}
+use mathlib.Core.Bool.{Bool, true, false, not, cond, ◌&&◌}
 use mathlib.Core.List.{List, ◌++◌, append_assoc}
 use Prim.Native.Nat.{ℕ}
 use lib.Dec.{eqb}
 use lib.ListN.{length}
-use Rattle.std.specs.Prelude.{Result, Err}
+use Rattle.std.specs.Prelude.{Result}
 use Rattle.refusals.specs.Cases.{first_of, positive, lacks}
-use Rattle.refusals.specs.Numbers.{number}
-use Rattle.refusals.specs.Shared.{key_cases, tag_key_cases}
+use Rattle.refusals.specs.Numbers.{number, number_in}
+use Rattle.refusals.specs.Shared.{good_key, key_cases, tag_key_cases}
 use Rattle.refusals.specs.declared.Refusal.{Refusal}
 use Rattle.refusals.proofs.Booleans.{both_true}
 use Rattle.refusals.proofs.Numbers.{number_some}
-use Rattle.refusals.proofs.Shared.{key_positive, key_lacks, tag_key_positive, tag_key_lacks}
+use Rattle.refusals.proofs.Shared.{key_0, key_positive, key_lacks, tag_key_positive, tag_key_lacks}
 use Rattle.refusals.proofs.Cases.{first_stop, first_pass, positive_append, lacks_append}
+use Rattle.circuit.specs.Good.{schedule_in}
+use Rattle.circuit.specs.declared.GoodSchedule.{GoodSchedule}
 use Rattle.circuit.specs.declared.Schedule.{Schedule}
-use Rattle.expansion.specs.KeySchedule.{schedule_of}
+use Rattle.expansion.specs.KeySchedule.{schedule_of, Prepares}
 use Rattle.header.specs.Fields.{layout_under, directory_end, directory_of, bodies_end}
 use Rattle.header.specs.Cases.{header_cases}
 use Rattle.header.proofs.Cases.{not_of_header, header_positive, header_lacks}
 use Rattle.directory.specs.Check.{directory_cases_by}
 use Rattle.directory.proofs.Cases.{not_of_directory, directory_positive, directory_lacks}
-use Rattle.admission.specs.Check.{key_check, wrong_tag_cases, file_cases_by, under_key_cases_by, check_cases, check_cases_by, Admits}
-use Rattle.admission.specs.declared.Admitted.{Admitted}
+use Rattle.admission.specs.Check.{key_check, wrong_tag_cases, file_cases_by, under_key_cases, under_key_cases_by}
+use Rattle.admission.specs.Check.{check_cases, check_cases_by, tag_schedule_under}
 
 -- m is the number of no case of checking: computed where m is a numeral
 abbrev pub not_of_check : ℕ → Bool
@@ -96,8 +98,27 @@ pub check_key : (key tag_key file : List ℕ) (e : Refusal) → number e ≡ fir
 unfolding check_cases_by
 check_key key tag_key file e q = q ∙ sym (first_stop (key_cases (length key)) _ (λ z. number_some e (q ∙ z)))
 
--- a refusal that is passed on hands on no schedule
-pub admits_none : (key tag_key file : List ℕ) (r : Result Admitted Refusal) (e : Refusal) → r ≡ Err e
-    → number e ≡ first_of (check_cases key tag_key file) → Admits key tag_key file r
-admits_none key tag_key file r e told n =
-    subst (λ (x : Result Admitted Refusal). Admits key tag_key file x) (sym told) (record { number = n; handed = tt })
+-- a good key leaves tag key and file to be asked
+pub check_ready : (key tag_key file : List ℕ) (p : Result GoodSchedule Refusal) (n : ℕ) → Prepares key p → number_in p ≡ 0
+    → n ≡ first_of (under_key_cases (schedule_in p) (length key) tag_key file) → n ≡ first_of (check_cases key tag_key file)
+unfolding check_cases_by
+check_ready key tag_key file p n r o e =
+    e
+    ∙ ap (λ (s : Schedule). first_of (under_key_cases s (length key) tag_key file)) r.schedule
+    ∙ sym (first_pass (key_cases (length key)) _ (key_positive (length key)) (sym r.number ∙ o))
+
+-- ---- the tag key's schedule, as it is handed on
+
+pub tag_schedule_good : (key tag_key : List ℕ) → good_key (length key) ≡ true → schedule_of tag_key ≡ tag_schedule_under key tag_key
+unfolding tag_schedule_under
+tag_schedule_good key tag_key e = rw e
+
+-- beside a key that is refused
+pub tag_schedule_else : (key tag_key : List ℕ) (p : Result GoodSchedule Refusal) → Prepares key p → (number_in p ≡ 0 → ⊥)
+    → schedule_of key ≡ tag_schedule_under key tag_key
+unfolding tag_schedule_under
+tag_schedule_else key tag_key p r t = by_test (good_key (length key)) refl
+  where
+    by_test : (good : Bool) → good_key (length key) ≡ good → schedule_of key ≡ cond good (schedule_of tag_key) (schedule_of key)
+    by_test true e = absurd (t (r.number ∙ key_0 (length key) e))
+    by_test false e = refl

@@ -6,11 +6,11 @@
 use Rattle.std.specs.Prelude.{◌≡◌, not, cond, List, [], ◌∷◌, ◌++◌, ℕ, eqb, length, take, replicate, Option, None, Some, Result, Ok, Err}
 use Rattle.refusals.specs.Cases.{Case, when, first_of}
 use Rattle.refusals.specs.Answers.{unless_refused}
-use Rattle.refusals.specs.Numbers.{number_in}
-use Rattle.refusals.specs.declared.Refusal.{Refusal}
-use Rattle.refusals.specs.Shared.{key_cases, tag_key_cases, rounds_cases}
+use Rattle.refusals.specs.Numbers.{number}
+use Rattle.refusals.specs.Shared.{good_key, key_cases, tag_key_cases, rounds_cases}
 use Rattle.octets.specs.Equality.{same_bytes}
 use Rattle.circuit.specs.Run.{encrypted}
+use Rattle.circuit.specs.Good.{no_schedule}
 use Rattle.circuit.specs.declared.GoodSchedule.{GoodSchedule}
 use Rattle.circuit.specs.declared.Schedule.{Schedule}
 use Rattle.expansion.specs.KeySchedule.{schedule_of}
@@ -20,6 +20,7 @@ use Rattle.header.specs.Cases.{header_cases}
 use Rattle.jobnumber.specs.Number.{order_of}
 use Rattle.directory.specs.Check.{directory_cases_by}
 use Rattle.admission.specs.declared.Admitted.{Admitted}
+use Rattle.admission.specs.declared.NotAdmitted.{NotAdmitted}
 
 -- the key check of a schedule: the first eight bytes of the block of sixteen `ff` through the cipher
 unfoldable pub key_check : Schedule → List ℕ
@@ -66,18 +67,42 @@ under_key_cases s keysize tag_key file = under_key_cases_by order_of s keysize t
 abbrev pub check_cases : List ℕ → List ℕ → List ℕ → List Case
 check_cases key tag_key file = check_cases_by order_of key tag_key file
 
--- the tag key's schedule, as admission hands it on: none where there is no tag key
+-- the tag key's schedule, as admission hands it on. It has no rounds and zero keys where there is no tag key, where the tag key is refused,
+-- and where the key is refused, beside which no tag key is prepared; `schedule_of` is that of any bad key, and of no bytes
+unfoldable pub tag_schedule_under : List ℕ → List ℕ → Schedule
+tag_schedule_under key tag_key = cond (good_key (length key)) (schedule_of tag_key) (schedule_of key)
+
+-- what admission answers, on every input: the number, 0 for none, and both schedules; one that is missing reads as no rounds and zero keys
+abbrev pub schedule_or_none : Option GoodSchedule → Schedule
+schedule_or_none None = no_schedule
+schedule_or_none (Some s) = s.schedule
+
+abbrev pub admitted_number : Result Admitted NotAdmitted → ℕ
+admitted_number (Ok a) = 0
+admitted_number (Err e) = number e.refusal
+
+abbrev pub admitted_schedule : Result Admitted NotAdmitted → Schedule
+admitted_schedule (Ok a) = a.schedule.schedule
+admitted_schedule (Err e) = schedule_or_none e.schedule
+
+abbrev pub admitted_tag_schedule : Result Admitted NotAdmitted → Schedule
+admitted_tag_schedule (Ok a) = schedule_or_none a.tag_schedule
+admitted_tag_schedule (Err e) = schedule_or_none e.tag_schedule
+
+-- the tag key's schedule of an archive without a case: none where there is no tag key
 abbrev pub IsTagSchedule : List ℕ → Option GoodSchedule → Type 0
 IsTagSchedule tag_key None = length tag_key ≡ 0
 IsTagSchedule tag_key (Some s) = (length tag_key ≡ 0 → ⊥) × (s.schedule ≡ schedule_of tag_key)
 
 -- the schedules that go with an archive without a case: the key's and the tag key's
-abbrev pub HandsOn : List ℕ → List ℕ → Result Admitted Refusal → Type 0
+abbrev pub HandsOn : List ℕ → List ℕ → Result Admitted NotAdmitted → Type 0
 HandsOn key tag_key (Ok a) = (a.schedule.schedule ≡ schedule_of key) × IsTagSchedule tag_key a.tag_schedule
 HandsOn key tag_key (Err e) = Unit {0}
 
--- the contract of admission, with which every call that reads an archive begins: the number of the first case, 0 for none; and where there
--- is none, the schedules of the keys
-pub record Admits (key tag_key file : List ℕ) (r : Result Admitted Refusal) : Type 0 where
-  pub number : number_in r ≡ first_of (check_cases key tag_key file)
+-- the contract of admission, with which every call that reads an archive begins: the number of the first case, 0 for none; the key's
+-- schedule, which is no rounds and zero keys for a refused key; and the tag key's
+pub record Admits (key tag_key file : List ℕ) (r : Result Admitted NotAdmitted) : Type 0 where
+  pub number : admitted_number r ≡ first_of (check_cases key tag_key file)
+  pub schedule : admitted_schedule r ≡ schedule_of key
+  pub tagged : admitted_tag_schedule r ≡ tag_schedule_under key tag_key
   pub handed : HandsOn key tag_key r

@@ -1,3 +1,4 @@
 pub mod Check
+pub mod Internal
 pub mod Layout1
 pub mod Layout2

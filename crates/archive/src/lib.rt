@@ -14,7 +14,9 @@ use refusals::Refusal;
 pub fn check(key: &[u8], tag_key: &[u8], file: &[u8]) -> Result<usize, Refusal>
     ensures { answer_of result ≡ check_of key.now tag_key.now file.now }
 {
-    admission::admit(key, tag_key, file).map(|_| header::count(file))
+    admission::admit(key, tag_key, file)
+        .map(|_| header::count(file))
+        .map_err(|refused| refused.refusal)
 }
 
 // The directory of an archive (01's contents), as a part of the file; empty where checking refuses.

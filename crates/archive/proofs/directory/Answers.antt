@@ -8,7 +8,7 @@ use Rattle.archive.proofs.directory.Goals as goal
 pub returns-in_default : goal.returns-in_default
 returns-in_default c =
     let e = c.in_default in
-    let some = number_some e.field-0 in
+    let some = number_some e.field-0.refusal in
     record {
       bytes = c.part.ensures.bytes ∙ part_refused _ _ _ (refusal_is _ _ _ e.ensures.number some);
       place = λ n g. absurd (some (e.ensures.number ∙ (answer_gives _ _ n g).0));

@@ -8,7 +8,7 @@ use Rattle.archive.proofs.find.Goals as goal
 pub returns-in_err-admit : goal.returns-in_err-admit
 returns-in_err-admit c =
     let e = c.in_err-admit in
-    let told : c.from_residual.result ≡ Err e.field-0.0 = search rules in
+    let told : c.from_residual.result ≡ Err e.field-0.0.refusal = search rules in
     finds_refused _ _ _ _ _ _ told e.ensures.number
 
 pub returns : goal.returns

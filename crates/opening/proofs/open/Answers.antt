@@ -10,8 +10,8 @@ use Rattle.opening.proofs.open.Goals as goal
 pub returns-in_err-admitted : goal.returns-in_err-admitted
 returns-in_err-admitted c =
     let e = c.in_err-admitted in
-    let told : c.from_residual.result ≡ Err e.field-0.0 = search rules in
-    as_told _ _ _ _ _ _ _ _ _ _ told (opens_refused _ _ _ _ _ _ _ _ e.ensures.number (number_some e.field-0.0))
+    let told : c.from_residual.result ≡ Err e.field-0.0.refusal = search rules in
+    as_told _ _ _ _ _ _ _ _ _ _ told (opens_refused _ _ _ _ _ _ _ _ e.ensures.number (number_some e.field-0.0.refusal))
 
 pub find_job-requires : goal.find_job-requires
 find_job-requires c = (accepted_header _ _ _ _ (sym c.in_ok-admitted.ensures.number)).long

@@ -6,7 +6,7 @@ pub returns : goal.returns
 returns c =
     rw (
       ← c.args.self.now.stated,
-      ← c.key_check.ensures,
+      ← c.key_check.ensures.check,
       ← c.archive_number.ensures,
       ← c.lines.ensures,
       ← c.key_size.ensures.0,
