@@ -4,7 +4,7 @@ use mathlib.Core.Path.{◌≡◌, refl, sym, ap, ap₂, ◌∙◌, subst}
 use mathlib.Core.Bool.{true, false}
 use mathlib.Core.List.{List, ◌++◌, append_assoc}
 use Prim.Native.Nat.{ℕ, ◌+◌, ◌<◌, ◌≤◌}
-use native.Mathlib.Nat.{zero-add}
+use native.Mathlib.Nat.{le_of_eq, zero-add}
 use native.Mathlib.Omega.{arith}
 use borrow.Author.Tests.{lt-ltb, le-ltb, ltb-false}
 use lib.Dec.{ltb}
@@ -16,14 +16,18 @@ use Rattle.refusals.specs.Answers.{Answer, refused, gives, answer, written_for}
 use Rattle.refusals.specs.Numbers.{answer_of}
 use Rattle.refusals.specs.declared.Refusal.{Refusal}
 use Rattle.refusals.proofs.Cases.{skip, stop, clear, first_pass, first_none, positive_append}
-use Rattle.refusals.proofs.Answers.{answer_gives, answer_none, answer_first, refusal_is}
+use Rattle.refusals.proofs.Answers.{answer_gives, answer_number, answer_none, answer_first, refusal_is}
 use Rattle.circuit.specs.declared.Schedule.{Schedule}
 use Rattle.expansion.specs.KeySchedule.{schedule_of}
 use Rattle.ctr.specs.Counter.{keystream, add_stream}
 use Rattle.ctr.proofs.Streams.{length_stream, stream_part}
-use Rattle.header.specs.Fields.{archive_number}
+use Rattle.header.specs.Fields.{archive_number, directory_of}
 use Rattle.jobnumber.specs.Number.{order_of}
-use Rattle.bodies.specs.Bodies.{number_cases}
+use Rattle.directory.specs.Entries.{entries}
+use Rattle.directory.specs.Search.{index_of, search_cases, search_of}
+use Rattle.directory.proofs.Entries.{entry_none}
+use Rattle.directory.proofs.Searching.{missing_is}
+use Rattle.bodies.specs.Bodies.{number_cases, body_at}
 use Rattle.bodies.proofs.Numbers.{number_positive}
 use Rattle.admission.specs.Check.{check_cases}
 use Rattle.admission.proofs.Checking.{check_positive}
@@ -31,6 +35,25 @@ use Rattle.archive.specs.Find.{find_cases}
 use Rattle.opening.specs.Open.{prefix_of, under_keystream, body_of, plain_of, job_size, range_of, plain_range, room_cases, range_cases}
 use Rattle.opening.specs.Open.{open_cases, open_of, Opens}
 use Rattle.opening.specs.Internal.{OpensBody}
+
+-- ---- how many bytes a job has, in any file
+
+module _ (file number : List ℕ) where
+  -- the search comes to no entry
+  pub size_none : (n : ℕ) → refused n ≡ search_of (directory_of file) number → 0 ≡ job_size file number
+  unfolding body_at
+  size_none n e =
+      let d : List ℕ = directory_of file in
+      let p = answer_number (first_of (search_cases d number)) (index_of d number) n (sym e) in
+      let past : entries d ≤ index_of d number = le_of_eq (sym (missing_is d number _ refl p.1).0) in
+      rw (entry_none d (index_of d number) past)
+
+  -- it comes to entry i, whose body is b
+  pub size_found : (i : ℕ) (b : List ℕ) → gives i ≡ search_of (directory_of file) number → b ≡ body_at file i
+      → length b ≡ job_size file number
+  size_found i b e eb =
+      let p = answer_gives (first_of (search_cases (directory_of file) number)) (index_of (directory_of file) number) i (sym e) in
+      ap length (eb ∙ ap (body_at file) (sym p.1))
 
 -- ---- the range and the buffer
 

@@ -20,12 +20,12 @@ pub fn prefix(archive: [u8; 4], number: [u8; 8]) -> [u8; 12]
     bytes
 }
 
-// Case 26, for a job of `size` bytes. A sum that does not fit a usize passes the end of every job.
+// Case 26, for a job of `size` bytes. The sum of `first` and `count` need not fit a usize, so it is not made.
 fn passes_end(size: usize, first: usize, count: usize) -> bool
     ensures { result ≡ ltb size (first + count) }
 {
-    match first.checked_add(count) {
-        Some(end) => size < end,
+    match size.checked_sub(first) {
+        Some(rest) => rest < count,
         None => true,
     }
 }
