@@ -1,6 +1,6 @@
 -- What reading leaves in a lent buffer, whatever the operating system hands over, and what it answers.
 -- Assumes nothing.
-use Rattle.std.specs.Prelude.{◌≡◌, Bool, true, false, List, ℕ, ◌≤◌, ◌<◌, length, take, drop, Result, Ok, Err}
+use Rattle.std.specs.Prelude.{◌≡◌, Bool, true, false, List, ℕ, ◌≤◌, ◌<◌, length, take, drop, replicate, Result, Ok, Err}
 use Rattle.inputs.specs.declared.ReadFailed.{ReadFailed}
 use Rattle.inputs.specs.declared.Counted.{Counted}
 
@@ -16,6 +16,13 @@ pub record Filled (before : List ℕ) (n : ℕ) (after : List ℕ) : Type 0 wher
   pub front : n ≡ length (take n after)
   pub same : length after ≡ length before
   pub rest : drop n after ≡ drop n before
+
+-- the bytes of a key file: what stands at the front of a buffer of 33 zero bytes that the file was read into
+pub record KeyRead (bytes : List ℕ) : Type 0 where
+  pub n : ℕ
+  pub buffer : List ℕ
+  pub filled : Filled (replicate 33 0) n buffer
+  pub taken : bytes ≡ take n buffer
 
 -- where a read failed, the buffer is not full: an input that fills it was read so far without an error
 abbrev pub FailsShort : Bool → ℕ → List ℕ → Type 0

@@ -2,10 +2,11 @@
 // the input.
 #![tactic(auto)]
 
-ghost use Rattle.std.specs.Prelude.{◌≡◌, ◌^◌, ◌≤◌, ◌<◌, IfOk, IfErr, length};
+ghost use Rattle.std.specs.Prelude.{◌≡◌, ◌^◌, ◌≤◌, ◌<◌, IfOk, IfErr, length, take};
 ghost use Rattle.std.specs.Io.{ReadsAtMost};
-ghost use Rattle.inputs.specs.Filled.{IsPrefixLen, Filled, FailsShort, Beyond, length_in, failed_in, read_in, first_in, beyond_in};
+ghost use Rattle.inputs.specs.Filled.{IsPrefixLen, Filled, KeyRead, FailsShort, Beyond, length_in, failed_in, read_in, first_in, beyond_in};
 
+use arrayvec::ArrayVec;
 use std::env::FillError;
 use std::io::{Error, ErrorKind, Read};
 use std::rt::{Env, Files};
@@ -142,6 +143,28 @@ pub fn named_file<R: Files>(rt: &R, name: &[u8], buf: &mut [u8]) -> usize
     ensures { Filled buf.old result buf.new }
 {
     named_input(rt, name, buf).unwrap_or(buf.len())
+}
+
+// The bytes of a key file: one more than the longest key, so that a file which is longer, or cannot be read, is no key.
+pub type KeyFile = ArrayVec<u8, 33>;
+
+// The first n bytes of a buffer.
+fn key_bytes(buffer: [u8; 33], n: usize) -> KeyFile
+    ensures { result.items ≡ take n buffer }
+{
+    let mut bytes = KeyFile::from(buffer);
+    bytes.truncate(n);
+    bytes
+}
+
+// Reads a key file.
+pub fn key_file<R: Files>(rt: &R, name: &[u8]) -> KeyFile
+    ensures read { KeyRead result.items }
+    ensures fits { length result.items ≤ 33 }
+{
+    let mut buffer = [0u8; 33];
+    let n = named_file(rt, name, &mut buffer);
+    key_bytes(buffer, n)
 }
 
 // What was read of a file: its first bytes, and how many more it has, by the remainder modulo 12.

@@ -6,12 +6,11 @@ ghost use Rattle.listing.specs.Listing.{Holds};
 ghost use Rattle.programs.specs.Failures.{failure_text};
 ghost use Rattle.programs.specs.declared.Failure.TheVariants.{Read, Write, Refused};
 
-use arrayvec::ArrayVec;
 use inputs::ReadFailed;
+pub use inputs::{KeyFile, key_file};
 use listing::Listing;
 use refusals::Refusal;
 use std::io;
-use std::rt::Files;
 
 // What may go wrong: a read of standard input, or of the sheet of jobs, a write of the output; or a call refuses.
 #[derive(Clone, Copy, Debug, PartialEq, Eq)]
@@ -72,18 +71,4 @@ impl Failure {
             Failure::Refused(refusal) => listing::refusal(u32::from(refusal)),
         }
     }
-}
-
-// The bytes of a key file: one more than the longest key, so that a file which is longer, or cannot be read, is no key.
-pub type KeyFile = ArrayVec<u8, 33>;
-
-// Reads a key file.
-pub fn key_file<R: Files>(rt: &R, name: &[u8]) -> KeyFile
-    ensures { length result.items ≤ 33 }
-{
-    let mut buffer = [0u8; 33];
-    let n = inputs::named_file(rt, name, &mut buffer);
-    let mut bytes = KeyFile::from(buffer);
-    bytes.truncate(n);
-    bytes
 }

@@ -3,6 +3,10 @@
 // then there is no archive; where writing failed, what went out is none.
 #![tactic(auto)]
 
+ghost use Rattle.std.specs.Prelude.{◌≤◌};
+ghost use Rattle.inputs.specs.Filled.{length_in};
+
+use inputs::ReadFailed;
 use programs::Failure;
 use std::io::IsTerminal;
 
@@ -45,11 +49,17 @@ fn write_archive(
     Ok(())
 }
 
+// How much of a key file was read: nothing of one that cannot be, so that it is no key. Bytes past the longest key do not matter.
+fn key_length(read: Result<usize, ReadFailed>) -> usize
+    ensures { result ≤ length_in read }
+{
+    read.unwrap_or(0)
+}
+
 // Reads the keys and the plain bytes, and seals the jobs of a sheet.
 fn seal_sheet(rt: &HostRuntime, sheet: &[u8]) -> Result<(), Failure> {
-    // bytes past the longest key do not matter; a file that cannot be read is no key
     let mut key = [0u8; 32];
-    let k = inputs::named_input(rt, b"key.bin", &mut key).unwrap_or(0);
+    let k = key_length(inputs::named_input(rt, b"key.bin", &mut key));
     let tag_key = programs::key_file(rt, b"tag.bin");
     // one byte more than the longest archive, so more than any archive has plain bytes: how many more does not matter
     let mut plain = [0u8; 65537];
