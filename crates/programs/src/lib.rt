@@ -6,6 +6,7 @@ ghost use Rattle.listing.specs.Listing.{Holds};
 ghost use Rattle.programs.specs.Failures.{failure_text};
 ghost use Rattle.programs.specs.declared.Failure.TheVariants.{Read, Write, Refused};
 
+use arrayvec::ArrayVec;
 use inputs::ReadFailed;
 pub use inputs::{KeyFile, key_file};
 use listing::Listing;

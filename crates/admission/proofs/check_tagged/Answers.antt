@@ -27,5 +27,5 @@ returns c tag_key some made =
     let tag = rw c.bodies_end-end.ensures at c.part-2.ensures.bytes in
     let rounds = c.args.tag_schedule.good in
     let asked = verify_asked (rounds_cases s.rounds) s s _ _ _ (rounds_positive s.rounds) (sym (rounds_0 s.rounds rounds)) refl
-    c.verify_good.ensures in
+    c.verify_good.ensures.good in
     tagged_tag _ _ _ _ _ some _ made refl none (tag_asked file good.laid (omega arith) s _ _ _ rounds run tag asked)

@@ -43,4 +43,4 @@ returns-in-Some c =
     done_tagged c.args.tag_schedule c.args.schedule.schedule c.args.sheet.sheet.now c.args.plain.now c.args.out.now c.args.sheet.headed none
     c.in-Some.tag_schedule c.in-Some.is c.write_front-end.result _ c.write_front-end.new.out c.copy_from_slice.new.self _ written.0
     written.1
-    (omega arith) (c.copy_from_slice.ensures.after ∙ c.tag_good-tag.ensures) refl
+    (omega arith) (c.copy_from_slice.ensures.after ∙ c.tag_good-tag.ensures.tag) refl

@@ -59,7 +59,7 @@ returns c =
     let sixteen : length c.tag_good-tag.result ≡ 16 = omega arith in
     let run : take end c.write_front-end.new.out ≡ front = ap (take end) written.1 ∙ take_at front (drop end before) end (sym written.0) in
     let tag : c.tag_good-tag.result ≡ tag_in left.tag_schedule front =
-    rw c.in-Some.is (c.tag_good-tag.ensures ∙ ap (tag_under c.in-Some.tag_schedule.schedule) run)
+    rw c.in-Some.is (c.tag_good-tag.ensures.tag ∙ ap (tag_under c.in-Some.tag_schedule.schedule) run)
     in
     marked_done left.tag_schedule left.named left.file.now before (end + 16) _
     (omega (arith, c.whole_length.ensures, c.if-out-whole_length.false))

@@ -21,5 +21,5 @@ returns c =
     let within = sym c.passes_end.ensures ∙ c.if-passes_end.false in
     let size : a.first + a.count - a.first ≡ a.count = omega arith in
     body_open _ _ _ _ _ _ within _ _ _ c.if-out-count.false size (sub-zero _)
-    (c.apply_good.ensures
+    (c.apply_good.ensures.stream
     ∙ ap (λ (l : List ℕ). add_stream (keystream job.schedule.schedule job.prefix) a.first l) c.copy_from_slice.ensures.after)

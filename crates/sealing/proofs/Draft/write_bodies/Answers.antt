@@ -38,7 +38,7 @@ loop-i-preserved c =
     c.prefix-prefix.ensures ∙ ap₂ prefix_of c.archive_number-archive.ensures c.job_number.ensures
     in
     let e : c.apply_good.new.run ≡ under_keystream s (archive_number_on sheet) (job_number_on sheet i) (take k (drop at run)) =
-    c.apply_good.ensures
+    c.apply_good.ensures.stream
     ∙ ap (λ (p : List ℕ). add_stream (keystream s p) 0 (take k (drop at run))) named
     in
     record {
