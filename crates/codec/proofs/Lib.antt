@@ -3,6 +3,7 @@ pub mod JobLaws
 pub mod Numbering
 pub mod Parts
 pub mod Putting
+pub mod Tagging
 pub mod Laid
 pub mod Built
 pub mod Rebuilt

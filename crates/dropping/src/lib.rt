@@ -156,32 +156,30 @@ impl<'a> Left<'a> {
         }
     }
 
-    // The header of the new archive: count and whole length are set anew, the other fields stay.
+    // The header of an archive of `count` of the file's jobs, of `whole` bytes: the other fields stay.
     #[tactic(auto, using(header::proofs::Accepted::number_length))]
-    fn header(&self) -> [u8; 20]
-        ensures { result ≡ header_left self.now.file.now (length (left_all self.now.named self.now.file.now))
-            (whole_left self.now.named self.now.file.now) }
+    fn header(&self, count: usize, whole: usize) -> [u8; 20]
+        ensures { result ≡ header_left self.now.file.now count whole }
     {
         let file = self.file;
         let mut number = [0u8; 4];
         number.copy_from_slice(header::archive_number(file));
         let mut check = [0u8; 8];
         check.copy_from_slice(&file[8..16]);
-        let count = self.count();
-        let whole = self.whole_length();
         codec::header(file[0], file[1], count, number, check, whole)
     }
 
-    // Writes all but the tag at the front of a buffer that has room for it, and answers where it ends.
+    // Writes all but the tag of the new archive, of `whole` bytes, at the front of a buffer that has room, and answers where it ends.
     #[tactic(auto, unfolding(codec::specs::Archive::whole_length))]
-    fn write_front(&self, out: &mut [u8]) -> usize
-        requires { whole_left self.now.named self.now.file.now ≤ length out.old }
+    fn write_front(&self, whole: usize, out: &mut [u8]) -> usize
+        requires { (whole ≡ whole_left self.now.named self.now.file.now) × (whole ≤ length out.old) }
         ensures { (result ≡ length (front_left self.now.named self.now.file.now))
             × (out.new ≡ front_left self.now.named self.now.file.now ++ drop result out.old) }
     {
-        let from = 20 + 16 * self.count();
-        let end = from + self.bodies_size();
-        out[..20].copy_from_slice(&self.header());
+        let count = self.count();
+        let from = 20 + 16 * count;
+        let end = whole - header::tag_size(self.file);
+        out[..20].copy_from_slice(&self.header(count, whole));
         self.write_directory(&mut out[20..from]);
         self.write_bodies(&mut out[from..end]);
         end
@@ -191,10 +189,11 @@ impl<'a> Left<'a> {
     fn write(&self, out: &mut [u8]) -> Result<usize, Refusal>
         ensures { DropsMarked self.now.tag_schedule self.now.named self.now.file.now out.old (answer_of result) out.new }
     {
-        if out.len() < self.whole_length() {
+        let whole = self.whole_length();
+        if out.len() < whole {
             return Err(Refusal::BufferTooShort);
         }
-        let end = self.write_front(out);
+        let end = self.write_front(whole, out);
         let Some(tag_schedule) = self.tag_schedule else {
             return Ok(end);
         };
