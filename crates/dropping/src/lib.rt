@@ -150,7 +150,7 @@ impl<'a> Left<'a> {
         for (i, goes) in self.marks().iter().enumerate() {
             if !*goes {
                 let end = at + self.size_at(i);
-                run[at..end].copy_from_slice(bodies::body_at(self.file, i));
+                octets::copy(bodies::body_at(self.file, i), &mut run[at..end]);
                 at = end;
             }
         }

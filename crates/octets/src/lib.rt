@@ -61,13 +61,14 @@ pub fn part(s: &[u8], from: usize, n: usize) -> &[u8]
     &rest[..n.min(rest.len())]
 }
 
-// Copies bytes over the front of a buffer, as far as both reach.
-#[tactic(auto, using(crate::proofs::Parts::overwritten_upto))]
+// Copies bytes over the front of a buffer, as far as both reach. It is a loop since `copy_from_slice` of a length that is not known comes to a
+// call of `memmove`, which a static library for C would then need from outside.
 pub fn copy(bytes: &[u8], out: &mut [u8])
     ensures { out.new ≡ overwritten bytes.now out.old }
 {
-    let n = bytes.len().min(out.len());
-    out[..n].copy_from_slice(&bytes[..n]);
+    for j in 0..bytes.len().min(out.len()) {
+        out[j] = bytes[j];
+    }
 }
 
 // Puts bytes into a buffer from `at` on, and answers the place behind them; where they do not fit, writes nothing and answers `at`.

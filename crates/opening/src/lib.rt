@@ -51,7 +51,7 @@ impl<'a> Job<'a> {
             return Err(Refusal::BufferTooShort);
         }
         let plain = &mut out[0..count];
-        plain.copy_from_slice(&self.body[first..first + count]);
+        octets::copy(&self.body[first..first + count], plain);
         ctr::apply_good(self.schedule, self.prefix, first, plain);
         Ok(count)
     }

@@ -195,7 +195,7 @@ impl<'a> Draft<'a> {
         requires { length run.old ≡ length self.now.plain.now }
         ensures { run.new ≡ bodies_on schedule.schedule self.now.sheet.now self.now.plain.now }
     {
-        run.copy_from_slice(self.plain);
+        octets::copy(self.plain, run);
         let archive = self.archive_number();
         let mut at = 0;
         for i in 0..sheet::lines(self.sheet) {

@@ -1,4 +1,5 @@
 -- `dropping::Left::write_bodies` meets its contract: after i turns the bodies of the jobs left of the first i are written.
+use Rattle.octets.proofs.Parts.{overwritten_whole}
 use Rattle.std.proofs.Common.{◌≡◌, ◌++◌, ◌+◌, ◌-◌, List, Bool, ℕ, refl, ap, ◌∙◌, length, drop, arith}
 use Rattle.bodies.specs.Bodies.{body_at}
 use Rattle.codec.specs.Jobs.{Job, bodies_in}
@@ -11,8 +12,8 @@ pub loop-i-init : goal.loop-i-init
 unfolding left_of bodies_in
 loop-i-init c = record { sized = refl; written = refl }
 
-pub slice_bounds-copy_from_slice-end : goal.slice_bounds-copy_from_slice-end
-slice_bounds-copy_from_slice-end c =
+pub slice_bounds-copy-end : goal.slice_bounds-copy-end
+slice_bounds-copy-end c =
     let marks : List Bool = c.marks-goes-items.result.now in
     let fits = kept_fits marks c.args.self.now.file.now c.loop-i.i c.if-not-goes.true c.loop-i-test.true in
     let all = ap (λ (js : List Job). length (bodies_in js)) c.marks-goes-items.ensures.2 in
@@ -34,7 +35,7 @@ loop-i-preserved c =
           ++ drop (at + length (body_at file i)) c.args.run.now =
           w.run-is
           ∙ copied_next c.loop-i.run (bodies_in (left_of marks file i)) c.args.run.now (body_at file i) _ at (at + w.size_at.result - at)
-          inv.written inv.sized (omega (arith, size)) (w.copy_from_slice.ensures.after ∙ w.body_at.ensures.bytes) in
+          inv.written inv.sized (omega (arith, size)) (w.copy.ensures ∙ overwritten_whole _ _ (omega (arith, size, ap length w.body_at.ensures.bytes)) ∙ w.body_at.ensures.bytes) in
           record {
             sized = omega (arith, size, inv.sized);
             written = put ∙ ap (λ (b : List ℕ). b ++ drop (at + length (body_at file i)) c.args.run.now)

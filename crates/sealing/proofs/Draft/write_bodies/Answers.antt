@@ -1,6 +1,7 @@
 -- `sealing::Draft::write_bodies` meets its contract: after i turns the first i bodies are sealed, and the rest is plain.
 use Rattle.std.proofs.Common.{◌≡◌, refl, sym, ap, ap₂, ◌∙◌, arith, List, ◌++◌, ℕ, ◌+◌, ◌-◌, ◌≤◌, length, take, drop, append-nil, add-one}
 use lib.ListN.{drop_of_length-le}
+use Rattle.octets.proofs.Parts.{overwritten_whole}
 use Rattle.blocks.specs.Blocks.{row}
 use Rattle.ctr.specs.Counter.{keystream, add_stream}
 use Rattle.opening.specs.Open.{prefix_of, under_keystream}
@@ -12,7 +13,7 @@ use Rattle.sealing.proofs.Draft.write_bodies.Goals as goal
 
 pub loop-i-init : goal.loop-i-init
 unfolding row sizes_on
-loop-i-init c = record { begun = refl; written = c.copy_from_slice.ensures.after }
+loop-i-init c = record { begun = refl; written = c.copy.ensures ∙ overwritten_whole _ _ (sym c.requires) }
 
 pub overflow_add-end : goal.overflow_add-end
 overflow_add-end c =
