@@ -21,7 +21,7 @@ pub returns-in-Err : goal.returns-in-Err
 returns-in-Err c =
     let there = c.run_by-there.ensures in
     let reversed = c.in-Err.ensures in
-    let both = refused_again _ _ _ _ _ _ _ there reversed c.run_by.ensures in
+    let both = refused_again _ _ _ _ _ _ _ there reversed c.run_by-in-Err.ensures in
     record {
       first = there.number;
       reversed = reversed.number;
