@@ -4,6 +4,7 @@ use mathlib.Core.List.{List}
 use Prim.Native.Nat.{ℕ, ◌+◌, ◌-◌}
 use native.Mathlib.Omega.{arith}
 use native.Mathlib.Nat.{sub-zero}
+use Rattle.octets.proofs.Parts.{overwritten_whole}
 use Rattle.ctr.specs.Counter.{keystream, add_stream}
 use Rattle.opening.proofs.Opening.{body_past, body_short, body_open}
 use Rattle.opening.proofs.Job.open.Goals as goal
@@ -22,4 +23,4 @@ returns c =
     let size : a.first + a.count - a.first ≡ a.count = omega arith in
     body_open _ _ _ _ _ _ within _ _ _ c.if-out-count.false size (sub-zero _)
     (c.apply_good.ensures.stream
-    ∙ ap (λ (l : List ℕ). add_stream (keystream job.schedule.schedule job.prefix) a.first l) c.copy_from_slice.ensures.after)
+    ∙ ap (λ (l : List ℕ). add_stream (keystream job.schedule.schedule job.prefix) a.first l) (c.copy.ensures ∙ overwritten_whole _ _ ?))
