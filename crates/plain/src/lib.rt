@@ -41,10 +41,13 @@ impl Rounds for Boxes {
     }
 }
 
-// A run under a schedule: refusal 3, then 4.
+// A run under a schedule: refusal 3, then 4, before the tables are made.
+#[tactic(auto, using(runs::proofs::Checked::checked), unfolding(circuit::specs::Run::run_bytes))]
 pub fn run(schedule: Schedule, run: &mut [u8]) -> Result<(), Refusal>
     ensures { Ran schedule run.old (number_in result) run.new }
 {
+    let n = schedule.rounds;
+    circuit::check_run(n, run.len())?;
     let boxes = Boxes { t: sbox::tables() };
     runs::run(&boxes, schedule, run)
 }
