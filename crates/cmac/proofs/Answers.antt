@@ -12,11 +12,11 @@ use Rattle.std.specs.Prelude.{Ok, Err}
 use Rattle.refusals.specs.Cases.{Case, when, first_of, positive}
 use Rattle.refusals.specs.Answers.{unless_refused}
 use Rattle.refusals.specs.Numbers.{number}
-use Rattle.refusals.specs.Shared.{good_key, key_cases, rounds_cases}
+use Rattle.refusals.specs.Shared.{good_key, key_cases, good_rounds, rounds_cases}
 use Rattle.refusals.specs.declared.Refusal.{Refusal}
 use Rattle.refusals.proofs.Cases.{first_stop, first_pass, one_applies, one_passes}
 use Rattle.refusals.proofs.Numbers.{number_some, refused_leaves}
-use Rattle.refusals.proofs.Shared.{key_positive, key_0, key_good, rounds_positive, rounds_good}
+use Rattle.refusals.proofs.Shared.{key_positive, key_0, key_good, rounds_positive, rounds_0, rounds_good}
 use Rattle.octets.specs.Equality.{same_bytes}
 use Rattle.octets.specs.Parts.{overwritten}
 use Rattle.octets.proofs.Parts.{overwritten_whole}
@@ -27,7 +27,7 @@ use Rattle.circuit.specs.Good.{no_schedule, Accepts}
 use Rattle.circuit.specs.declared.GoodSchedule.{GoodSchedule}
 use Rattle.circuit.specs.declared.Schedule.{Schedule}
 use Rattle.expansion.specs.KeySchedule.{schedule_of}
-use Rattle.cmac.specs.Tag.{tag_under, Tags, tag_cases, verify_cases, write_number, WritesTag}
+use Rattle.cmac.specs.Tag.{tag_under, Tags, tag_cases, verify_cases, verify_number_under, write_number, WritesTag}
 
 -- a schedule that was taken for a good one is the schedule
 pub taken : (s : Schedule) (good : GoodSchedule) → Accepts s (Ok good) → good.schedule ≡ s
@@ -60,6 +60,10 @@ pub tags_under : (s : Schedule) (run : List ℕ) (good : GoodSchedule) (tag : Li
     → tag ≡ tag_under good.schedule run
     → Tags (rounds_cases s.rounds) s run (Ok tag)
 tags_under s run good tag a e = tags_done (rounds_cases s.rounds) s run good.schedule tag a.number (taken s good a) e
+
+pub tags_good : (s : Schedule) (run tag : List ℕ) → good_rounds s.rounds ≡ true → tag ≡ tag_under s run
+    → Tags (rounds_cases s.rounds) s run (Ok tag)
+tags_good s run tag good e = tags_done (rounds_cases s.rounds) s run s tag (sym (rounds_0 s.rounds good)) refl e
 
 -- ---- 23
 
@@ -148,6 +152,15 @@ pub verify_asked : (cases : List Case) (s t : Schedule) (run tag : List ℕ) (r 
 unfolding verify_cases
 verify_asked cases s t run tag r p z et e =
     e ∙ ap (λ (u : Schedule). first_of (verify_cases [] u run tag)) et ∙ sym (first_pass cases _ p (sym z))
+
+-- and so does a good schedule's round count
+pub verify_rounds : (good : GoodSchedule) (run tag : List ℕ) (r : ℕ) → r ≡ first_of (verify_cases [] good.schedule run tag)
+    → r ≡ verify_number_under good.schedule run tag
+verify_rounds good run tag r e =
+    let s = good.schedule in
+    verify_asked (rounds_cases s.rounds) s s run tag r (rounds_positive s.rounds) (sym (rounds_0 s.rounds good.good)) refl e
+
+pub ruleset under_good = (good_23, good_25, good_0, verify_rounds)
 
 -- ---- writing
 

@@ -2,7 +2,7 @@
 // the message is laid out in blocks; the word-table engine encrypts them.
 #![tactic(auto)]
 
-ghost use Rattle.std.specs.Prelude.{◌≡◌, [], ◌∷◌, ◌++◌, ◌≤◌, length};
+ghost use Rattle.std.specs.Prelude.{◌≡◌, [], ◌∷◌, ◌++◌, ◌≤◌, Ok, length};
 ghost use Rattle.refusals.specs.Cases.{first_of};
 ghost use Rattle.refusals.specs.Numbers.{number_in};
 ghost use Rattle.refusals.specs.Shared.{key_cases, rounds_cases};
@@ -28,7 +28,8 @@ fn filled(part: &[u8]) -> [u8; 16]
 
 // The tag of a run under a good schedule.
 pub fn tag_good(schedule: GoodSchedule, run: &[u8]) -> [u8; 16]
-    ensures { result ≡ tag_under schedule.schedule run.now }
+    ensures tag { result ≡ tag_under schedule.schedule run.now }
+    ensures tagged { Tags (rounds_cases schedule.schedule.rounds) schedule.schedule run.now (Ok result) }
 {
     let end = run.len().saturating_sub(1) / 16 * 16;
     let (front, last) = run.split_at(end);
@@ -67,9 +68,10 @@ pub fn tag_into(key: &[u8], run: &[u8], tag: &mut [u8]) -> Result<(), Refusal>
 
 // Whether a lent tag is that of a run under a good schedule: refusals 23 and, where it differs, 25. All its bytes are looked at, whichever
 // differ.
-#[tactic(auto, using(crate::proofs::Answers::good_23, crate::proofs::Answers::good_25, crate::proofs::Answers::good_0))]
+#[tactic(auto, using(crate::proofs::Answers::under_good))]
 pub fn verify_good(schedule: GoodSchedule, run: &[u8], tag: &[u8]) -> Result<(), Refusal>
-    ensures { number_in result ≡ first_of (verify_cases [] schedule.schedule run.now tag.now) }
+    ensures good { number_in result ≡ first_of (verify_cases [] schedule.schedule run.now tag.now) }
+    ensures number { number_in result ≡ verify_number_under schedule.schedule run.now tag.now }
 {
     if tag.len() != 16 {
         return Err(Refusal::TagLength);

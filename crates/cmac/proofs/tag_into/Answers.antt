@@ -21,7 +21,7 @@ pub returns-then-tag-eq16 : goal.returns-then-tag-eq16
 returns-then-tag-eq16 c =
     let p = c.in_ok-schedule.ensures in
     let sixteen : length c.tag_good.result ≡ 16 = search rules in
-    writes_tag _ _ _ p.number _ _ _ c.if-tag-eq16.true sixteen p.schedule c.tag_good.ensures c.store.ensures
+    writes_tag _ _ _ p.number _ _ _ c.if-tag-eq16.true sixteen p.schedule c.tag_good.ensures.tag c.store.ensures
 
 pub returns-else-tag-eq16 : goal.returns-else-tag-eq16
 returns-else-tag-eq16 c = writes_23 _ _ _ c.in_ok-schedule.ensures.number c.if-tag-eq16.false

@@ -6,4 +6,4 @@ use Rattle.cmac.proofs.verify.Goals as goal
 pub returns : goal.returns
 returns c =
     let p = c.in_ok-prepare.ensures in
-    verify_asked _ _ _ _ _ _ (key_positive _) p.number p.schedule c.verify_good.ensures
+    verify_asked _ _ _ _ _ _ (key_positive _) p.number p.schedule c.verify_good.ensures.good

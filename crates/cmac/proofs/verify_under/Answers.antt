@@ -6,4 +6,4 @@ use Rattle.cmac.proofs.verify_under.Goals as goal
 pub returns : goal.returns
 returns c =
     let a = c.in_ok-try_from.ensures in
-    verify_asked _ _ _ _ _ _ (rounds_positive _) a.number (taken _ _ a) c.verify_good.ensures
+    verify_asked _ _ _ _ _ _ (rounds_positive _) a.number (taken _ _ a) c.verify_good.ensures.good
