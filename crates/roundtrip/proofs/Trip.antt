@@ -17,12 +17,12 @@ use Rattle.refusals.specs.Shared.{good_rounds}
 use Rattle.circuit.specs.Run.{encrypted, run_number, Ran}
 use Rattle.expansion.specs.Decryption.{decryption_of, Reverses}
 use Rattle.circuit.specs.declared.Schedule.{Schedule}
-use Rattle.circuit.specs.Good.{schedule_in}
+use Rattle.circuit.specs.Good.{no_schedule, schedule_in}
 use Rattle.circuit.specs.declared.GoodSchedule.{GoodSchedule}
 use Rattle.refusals.specs.Numbers.{number}
 use Rattle.refusals.proofs.Numbers.{number_some}
-use Rattle.refusals.proofs.Shared.{rounds_0, rounds_good}
-use Rattle.circuit.proofs.Runs.{number_0, number_4, number_rounds, bytes_done, bytes_refused, length_encrypted}
+use Rattle.refusals.proofs.Shared.{rounds_0, rounds_good, rounds_bad}
+use Rattle.circuit.proofs.Runs.{number_0, number_3, number_4, number_rounds, bytes_done, bytes_refused, length_encrypted}
 use Rattle.expansion.proofs.Undo.{decryption_rounds, decrypt_encrypt}
 use Rattle.roundtrip.specs.RoundTrip.{RanBy, ThereAndBack, DemandThree}
 use Rattle.engines.specs.declared.Engine.{Engine}
@@ -112,3 +112,15 @@ pub not_reversed : (s : Schedule) (xs ys : List ℕ) (a : ℕ) (e : Refusal) →
 not_reversed s xs ys a e first reversed =
     let told = number_rounds e s.rounds (length xs) reversed.number in
     (told, first.bytes ∙ bytes_refused s xs (λ z. number_some e (told ∙ z)))
+
+-- and the second run, under a schedule of no rounds, is refused in turn
+pub refused_again : (s : Schedule) (xs ys zs : List ℕ) (a c : ℕ) (e : Refusal) → Ran s xs a ys → Reverses s (Err e)
+    → Ran no_schedule ys c zs → (c ≡ run_number s.rounds (length xs)) × (zs ≡ xs)
+unfolding good_rounds
+refused_again s xs ys zs a c e first reversed second =
+    let bad = rounds_bad s.rounds (λ z. number_some e (reversed.number ∙ z)) in
+    let three = number_3 no_schedule.rounds (length ys) refl in
+    let left = (not_reversed s xs ys a e first reversed).1 in (
+      second.number ∙ three ∙ sym (number_3 s.rounds (length xs) bad),
+      second.bytes ∙ bytes_refused no_schedule ys (λ z. omega (arith, three, z)) ∙ left,
+    )

@@ -7,7 +7,7 @@ use circuit::Schedule;
 use engines::Engine;
 use refusals::Refusal;
 
-// What the three calls answered, in their order. Without a decryption schedule the second run is refused as that was.
+// What the three calls answered, in their order. Where there is no decryption schedule the second run has one of no rounds and zero keys.
 #[derive(Clone, Copy)]
 pub struct Answered {
     pub first: Result<(), Refusal>,
@@ -33,10 +33,16 @@ pub fn round_trip(
             reversed: Ok(()),
             second: engines::run_by(second, good.schedule, run),
         },
-        Err(refusal) => Answered {
-            first: there,
-            reversed: Err(refusal),
-            second: Err(refusal),
-        },
+        Err(refusal) => {
+            let none = Schedule {
+                rounds: 0,
+                keys: [0u8; 272],
+            };
+            Answered {
+                first: there,
+                reversed: Err(refusal),
+                second: engines::run_by(second, none, run),
+            }
+        }
     }
 }

@@ -1,7 +1,7 @@
 -- `roundtrip::round_trip` meets its contract: the contracts of the three calls, one after the other.
 use Rattle.std.proofs.Common.{List, ℕ, ap, ◌∙◌}
 use Rattle.octets.specs.Parts.{overwritten}
-use Rattle.roundtrip.proofs.Trip.{every_length, not_reversed}
+use Rattle.roundtrip.proofs.Trip.{every_length, refused_again}
 use Rattle.roundtrip.proofs.round_trip.Goals as goal
 
 pub returns-in-Ok : goal.returns-in-Ok
@@ -21,7 +21,7 @@ pub returns-in-Err : goal.returns-in-Err
 returns-in-Err c =
     let there = c.run_by-there.ensures in
     let reversed = c.in-Err.ensures in
-    let both = not_reversed _ _ _ _ _ there reversed in
+    let both = refused_again _ _ _ _ _ _ _ there reversed c.run_by-in-Err.ensures in
     record {
       first = there.number;
       reversed = reversed.number;
