@@ -34,7 +34,10 @@ pub extern "C" fn bench_ctr(key: &[u8], prefix: &[u8], first: usize, run: &mut [
 pub extern "C" fn bench_check(key: &[u8], tag_key: &[u8], file: &[u8]) -> u32
     ensures { result ≡ first_of (check_cases key.now tag_key.now file.now) }
 {
-    refusals::number_of(archive::check(key, tag_key, file))
+    match archive::check(key, tag_key, file) {
+        Ok(_jobs) => 0,
+        Err(unchecked) => u32::from(unchecked),
+    }
 }
 
 // A whole job into the front of a buffer: 0, or the refusal.
@@ -49,7 +52,10 @@ pub extern "C" fn bench_open(
     ensures { BenchOpens key.now tag_key.now file.now number.now
         0 (job_size file.now number.now) out.old result out.new }
 {
-    refusals::number_of(opening::open(key, tag_key, file, number, out))
+    match opening::open(key, tag_key, file, number, out) {
+        Ok(_size) => 0,
+        Err(unopened) => u32::from(unopened),
+    }
 }
 
 // A range of a job into the front of a buffer: 0, or the refusal.
@@ -66,7 +72,10 @@ pub extern "C" fn bench_open_range(
     ensures { BenchOpens key.now tag_key.now file.now number.now first count
         out.old result out.new }
 {
-    refusals::number_of(opening::open_range(key, tag_key, file, number, first, count, out))
+    match opening::open_range(key, tag_key, file, number, first, count, out) {
+        Ok(_count) => 0,
+        Err(unread) => u32::from(unread),
+    }
 }
 
 // An archive sealed into the front of a buffer: 0, or the refusal.
@@ -81,7 +90,10 @@ pub extern "C" fn bench_seal(
     ensures { BenchSeals key_file.now tag_key.now sheet.now plain.now
         out.old result out.new }
 {
-    refusals::number_of(sealing::seal(key_file, tag_key, sheet, plain, out))
+    match sealing::seal(key_file, tag_key, sheet, plain, out) {
+        Ok(_whole) => 0,
+        Err(unsealed) => u32::from(unsealed),
+    }
 }
 
 // An archive without the jobs of a list, into the front of a buffer: 0, or the refusal.
@@ -96,7 +108,10 @@ pub extern "C" fn bench_drop(
     ensures { BenchDrops key.now tag_key.now file.now list.now out.old result
         out.new }
 {
-    refusals::number_of(dropping::drop(key, tag_key, file, list, out))
+    match dropping::drop(key, tag_key, file, list, out) {
+        Ok(_left) => 0,
+        Err(undropped) => u32::from(undropped),
+    }
 }
 
 // What dropping the jobs of a list would leave: the directory into the front of a buffer, and the three numbers of the answer in one.

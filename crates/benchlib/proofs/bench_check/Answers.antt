@@ -1,7 +1,11 @@
 -- `benchlib::bench_check` meets its contract: what checking answers is told by its refusal.
-use mathlib.Core.Path.{◌∙◌}
+use native.Mathlib.Omega.{arith}
+use Rattle.std.specs.Prelude.{Ok, Err}
 use Rattle.benchlib.proofs.Told.{number_answered}
 use Rattle.benchlib.proofs.bench_check.Goals as goal
 
-pub returns : goal.returns
-returns c = c.number_of.ensures ∙ number_answered _ _ _ c.check.ensures
+pub returns-in-Ok : goal.returns-in-Ok
+returns-in-Ok c = number_answered (Ok c.in-Ok._jobs) _ _ c.in-Ok.ensures
+
+pub returns-in-Err : goal.returns-in-Err
+returns-in-Err c = omega (arith, c.from.ensures, number_answered (Err c.in-Err.unchecked) _ _ c.in-Err.ensures)
