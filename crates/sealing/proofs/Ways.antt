@@ -1,22 +1,25 @@
 -- The ways out of the code: what each has to show, stage by stage.
 -- Assumes nothing.
 use mathlib.Core.Path.{◌≡◌, refl, sym, ap, ap₂, ◌∙◌}
-use Rattle.std.specs.Prelude.{Option, Some, None}
+use mathlib.Core.Bool.{true}
+use Rattle.std.specs.Prelude.{Option, Some, None, Result}
 use mathlib.Core.List.{List, [], ◌++◌, append_assoc, append-nil}
 use Prim.Native.Nat.{ℕ, ◌+◌, ◌*◌, ◌<◌, ◌≤◌}
 use native.Mathlib.Omega.{arith}
 use lib.ListN.{length, take, drop, length-append}
-use lib.Seq.{take_at}
+use lib.Seq.{take_at, length-take-le}
 use Rattle.refusals.specs.Cases.{Case, first_of}
 use Rattle.refusals.specs.Answers.{Answer, refused, gives, answer, written_for}
-use Rattle.refusals.specs.Shared.{tag_key_cases}
+use Rattle.refusals.specs.Shared.{good_key, tag_key_cases}
+use Rattle.refusals.specs.declared.Refusal.{Refusal}
+use Rattle.refusals.specs.Numbers.{number_in}
 use Rattle.refusals.proofs.Answers.{answer_none, answer_first, refusal_is}
 use Rattle.refusals.proofs.Cases.{first_pass, first_stop}
-use Rattle.refusals.proofs.Shared.{tag_key_positive}
+use Rattle.refusals.proofs.Shared.{key_0, tag_key_positive}
 use Rattle.blocks.proofs.Rows.{length_row}
 use Rattle.circuit.specs.declared.Schedule.{Schedule}
 use Rattle.circuit.specs.declared.GoodSchedule.{GoodSchedule}
-use Rattle.expansion.specs.KeySchedule.{schedule_of}
+use Rattle.expansion.specs.KeySchedule.{schedule_of, Prepares}
 use Rattle.cmac.specs.Tag.{tag_under}
 use Rattle.cmac.proofs.Laws.{tag_size_lem}
 use Rattle.header.specs.Fields.{layout_under, tag_size}
@@ -28,7 +31,7 @@ use Rattle.codec.proofs.Parts.{header_length}
 use Rattle.sheet.specs.Sheet.{key_size_on, archive_number_on, lines, sizes_on}
 use Rattle.sheet.specs.Cases.{sheet_cases, lines_cases}
 use Rattle.sheet.proofs.LineLaws.{number_length}
-use Rattle.sheet.proofs.Cases.{sheet_positive, lines_positive}
+use Rattle.sheet.proofs.Cases.{sheet_positive, sheet_good, key_size_good, lines_positive}
 use Rattle.sealing.specs.Seal.{key_on, length_on, key_file_cases, length_cases, rest_cases, seal_cases, seal_of, Seals}
 use Rattle.sealing.specs.Internal.{header_on, entry_on, directory_on, bodies_on, front_on, layout_in, tag_in, TagOf, SealsRest}
 use Rattle.sealing.proofs.Cases.{RestGood, rest_good, key_file_positive, key_file_good, key_file_1, written_same, given_good}
