@@ -199,6 +199,15 @@ module _ (tag_key : List ℕ) where
 
 -- ---- all of it
 
+-- a key file that is long enough for a sheet without a case gives a key that is not refused
+pub key_taken : (key_file sheet : List ℕ) → first_of (sheet_cases sheet) ≡ 0 → key_size_on sheet ≤ length key_file
+    → (r : Result GoodSchedule Refusal) → Prepares (key_on key_file sheet) r → number_in r ≡ 0
+key_taken key_file sheet none enough r p =
+    let good : good_key (length (key_on key_file sheet)) ≡ true =
+    ap good_key (length-take-le (key_size_on sheet) key_file enough) ∙ key_size_good sheet (sheet_good sheet none).sized
+    in
+    p.number ∙ key_0 _ good
+
 module _ (key_file tag_key sheet plain before : List ℕ) where
   abbrev rest : ℕ → List Case
   rest layout = rest_cases layout sheet (length plain) (length before)
