@@ -50,7 +50,9 @@ fn open_asked(
     }
 }
 
-// Reads the keys and the archive, opens the job and writes what is asked for.
+// Reads the keys and the archive, opens the job and writes what is asked for. Its buffers are not laid into `main`, so that words which are
+// not taken get their usage on a small stack too.
+#[inline(never)]
 fn open_job(rt: &HostRuntime, number: &[u8], asked: Asked) -> Result<(), Failure> {
     let key = programs::key_file(rt, b"key.bin");
     let tag_key = programs::key_file(rt, b"tag.bin");
