@@ -57,7 +57,7 @@ def figures():
     of_definitions = [path for path in edits if re.search(r"^file: specs/", read(path), re.M)]
     yield "crates", count(r"^\w+( \w+)*:", "crates.txt")
     yield "functions", count(r'^ *(?:pub )?(?:extern "C" )?fn ', "crates/*/src/*.rt")
-    written = [path for part in ("Proof", "Invariants", "Answers") for path in found("crates/*/proofs/**/%s.antt" % part)]
+    written = [path for part in ("Proof", "Invariants", "Answers") for path in found("crates/*/proofs/*/**/%s.antt" % part)]
     yield "of these proved by files of their own", len({os.path.dirname(path) for path in written})
     yield "must-fail edits", len(edits)
     yield "of these with a changed definition", len(of_definitions)
