@@ -61,8 +61,8 @@ pub fn part(s: &[u8], from: usize, n: usize) -> &[u8]
     &rest[..n.min(rest.len())]
 }
 
-// Copies bytes over the front of a buffer, as far as both reach. It is a loop since `copy_from_slice` of a length that is not known comes to a
-// call of `memmove`, which a static library for C would then need from outside.
+// Copies bytes over the front of a buffer, as far as both reach. It is a loop: `copy_from_slice` calls `memmove` where the compiler does
+// not know the length, and a static library for C would then need that from outside.
 pub fn copy(bytes: &[u8], out: &mut [u8])
     ensures { out.new ≡ overwritten bytes.now out.old }
 {

@@ -35,7 +35,10 @@ loop-i-preserved c =
           ++ drop (at + length (body_at file i)) c.args.run.now =
           w.run-is
           ∙ copied_next c.loop-i.run (bodies_in (left_of marks file i)) c.args.run.now (body_at file i) _ at (at + w.size_at.result - at)
-          inv.written inv.sized (omega (arith, size)) (w.copy.ensures ∙ overwritten_whole _ _ (omega (arith, size, ap length w.body_at.ensures.bytes)) ∙ w.body_at.ensures.bytes) in
+          inv.written inv.sized (omega (arith, size))
+          (w.copy.ensures
+          ∙ overwritten_whole _ _ (omega (arith, size, ap length w.body_at.ensures.bytes))
+          ∙ w.body_at.ensures.bytes) in
           record {
             sized = omega (arith, size, inv.sized);
             written = put ∙ ap (λ (b : List ℕ). b ++ drop (at + length (body_at file i)) c.args.run.now)

@@ -32,4 +32,5 @@ returns c =
     let lent : length (take (a.count - 0) a.out.now) ≡ a.count - 0 = length-take-le _ _ (omega (arith, c.if-out-count.false)) in
     body_open _ _ _ _ _ _ within _ _ _ c.if-out-count.false size (sub-zero _)
     (c.apply_good.ensures.stream
-    ∙ ap (λ (l : List ℕ). add_stream (keystream job.schedule.schedule job.prefix) a.first l) (c.copy.ensures ∙ overwritten_whole _ _ (sealed ∙ size ∙ sym (sub-zero a.count) ∙ sym lent)))
+    ∙ ap (λ (l : List ℕ). add_stream (keystream job.schedule.schedule job.prefix) a.first l)
+    (c.copy.ensures ∙ overwritten_whole _ _ (sealed ∙ size ∙ sym (sub-zero a.count) ∙ sym lent)))
