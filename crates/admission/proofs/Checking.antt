@@ -1,13 +1,13 @@
 -- The cases of checking: those of the key, of the tag key, of the header, of the directory and of the tag, one group after another; and the
 -- answers of key preparation as the first of them.
 -- Assumes nothing.
-use mathlib.Core.Path.{◌≡◌, refl, sym, ap, ◌∙◌}
+use mathlib.Core.Path.{◌≡◌, refl, sym, ap, subst, ◌∙◌}
 use mathlib.Core.Bool.{Bool, true, false, not, cond, ◌&&◌}
 use mathlib.Core.List.{List, ◌++◌, append_assoc}
 use Prim.Native.Nat.{ℕ}
 use lib.Dec.{eqb}
 use lib.ListN.{length}
-use Rattle.std.specs.Prelude.{Result}
+use Rattle.std.specs.Prelude.{Result, Err}
 use Rattle.refusals.specs.Cases.{first_of, positive, lacks}
 use Rattle.refusals.specs.Numbers.{number, number_in}
 use Rattle.refusals.specs.Shared.{good_key, key_cases, tag_key_cases}
@@ -26,7 +26,9 @@ use Rattle.header.proofs.Cases.{not_of_header, header_positive, header_lacks}
 use Rattle.directory.specs.Check.{directory_cases_by}
 use Rattle.directory.proofs.Cases.{not_of_directory, directory_positive, directory_lacks}
 use Rattle.admission.specs.Check.{key_check, wrong_tag_cases, file_cases_by, under_key_cases, under_key_cases_by}
-use Rattle.admission.specs.Check.{check_cases, check_cases_by, tag_schedule_under}
+use Rattle.admission.specs.Check.{check_cases, check_cases_by, tag_schedule_under, admitted_number, HandsOn}
+use Rattle.admission.specs.declared.Admitted.{Admitted}
+use Rattle.admission.specs.declared.NotAdmitted.{NotAdmitted}
 
 -- m is the number of no case of checking: computed where m is a numeral
 abbrev pub not_of_check : ℕ → Bool
@@ -97,6 +99,14 @@ pub check_key : (key tag_key file : List ℕ) (e : Refusal) → number e ≡ fir
     → number e ≡ first_of (check_cases key tag_key file)
 unfolding check_cases_by
 check_key key tag_key file e q = q ∙ sym (first_stop (key_cases (length key)) _ (λ z. number_some e (q ∙ z)))
+
+-- a refusal that is passed on hands on no schedule as that of an archive without a case
+pub admits_none : (key tag_key file : List ℕ) (r : Result Admitted NotAdmitted) (e : NotAdmitted) → r ≡ Err e
+    → number e.refusal ≡ first_of (check_cases key tag_key file)
+    → (admitted_number r ≡ first_of (check_cases key tag_key file)) × HandsOn key tag_key r
+admits_none key tag_key file r e told n =
+    subst (λ (x : Result Admitted NotAdmitted). (admitted_number x ≡ first_of (check_cases key tag_key file)) × HandsOn key tag_key x)
+    (sym told) (n, tt)
 
 -- a good key leaves tag key and file to be asked
 pub check_ready : (key tag_key file : List ℕ) (p : Result GoodSchedule Refusal) (n : ℕ) → Prepares key p → number_in p ≡ 0

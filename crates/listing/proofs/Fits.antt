@@ -65,11 +65,15 @@ held_as {s} {t} {r} e p = subst (λ (l : List ℕ). Holds l r) e p
 pub held_whole : {s : List ℕ} {r : Listing} → length s ≤ 1352 → Holds (take 1352 s) r → Holds s r
 held_whole {s} {r} h p = held_as (take_all 1352 s h) p
 
+-- a text put into none is all that is put
+pub puts_items : (s : List ℕ) (a r : ArrayVec ℕ) → a.items ≡ [] → length s ≤ 1352 → Puts a s r → r.items ≡ s
+puts_items s a r e h p =
+    let none : length a.items ≡ 0 = ap length e in
+    p.put (omega arith) ∙ ap (λ (l : List ℕ). l ++ s) e
+
 -- a text put into none is all that is held
 pub puts_held : (s l : List ℕ) (a b : ArrayVec ℕ) (r : Listing) → a.items ≡ [] → length s ≤ 1352 → Puts a s b → l ≡ b.items
     → Holds (take 1352 l) r
     → Holds s r
 puts_held s l a b r e h p el held =
-    let none : length a.items ≡ 0 = ap length e in
-    let is : b.items ≡ s = p.put (omega arith) ∙ ap (λ (l : List ℕ). l ++ s) e in
-    held_whole h (held_as (ap (take 1352) (el ∙ is)) held)
+    held_whole h (held_as (ap (take 1352) (el ∙ puts_items s a b e h p)) held)
